@@ -79,6 +79,10 @@ module _ (name : List ℕ) where
   unfolding clap_on_literals
   prove-fits = record { matched = λ _. refl; answered = λ _ _. inl refl; told = λ _ _. refl }
 
+  facets-fits : Fits (name ∷ codes "facets" ∷ [])
+  unfolding clap_on_literals
+  facets-fits = record { matched = λ _. refl; answered = λ _ _. inl refl; told = λ _ _. refl }
+
   help-fault : fault_of commands (name ∷ codes "--help" ∷ []) ≡ kind.DisplayHelp ∷ []
   unfolding clap_on_literals
   help-fault = refl
@@ -250,9 +254,10 @@ module _ (name : List ℕ) where
       by_literal FitsWord (codes "renew") word _ refl renew-fits (λ e5.
       by_literal FitsWord (codes "replay") word _ refl replay-fits (λ e6.
       by_literal FitsWord (codes "prove") word _ refl prove-fits (λ e7.
-      by_literal FitsWord (codes "--help") word _ refl help-fits (λ e8.
-      by_literal FitsWord (codes "--version") word _ refl version-fits (λ e9.
-      others-fit word (rw (e1, e2, e3, e4, e5, e6, e7, e8, e9) refl))))))))))
+      by_literal FitsWord (codes "facets") word _ refl facets-fits (λ e8.
+      by_literal FitsWord (codes "--help") word _ refl help-fits (λ e9.
+      by_literal FitsWord (codes "--version") word _ refl version-fits (λ e10.
+      others-fit word (rw (e1, e2, e3, e4, e5, e6, e7, e8, e9, e10) refl)))))))))))
 
   -- ---- a command and a number
 

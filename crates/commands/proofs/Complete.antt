@@ -12,9 +12,11 @@ use Rattle.summary_cache.proofs.Complete.{not-refused}
 use Rattle.commands.specs.declared.reply.Reply.{Reply}
 use Rattle.commands.specs.declared.status.Status.{Status}
 use Rattle.commands.specs.declared.status.Status.TheVariants.{AllProved, SomeUnproved, NoneFailed, SomeFailed, Certified, TooLong}
+use Rattle.commands.specs.declared.words.Work.{Work}
+use Rattle.commands.specs.declared.words.Work.TheVariants.{Analyse, Facets, Prove}
 use Rattle.commands.specs.Input.{IsInput}
 use Rattle.commands.specs.Limits.{most_input}
-use Rattle.commands.specs.Analyse.{IsReplyToAnalyse, IsReplyToProve, IsReplyUnder, IsToAnalyse, IsToProve}
+use Rattle.commands.specs.Analyse.{IsReplyUnder, IsToAnalyse, IsToFacets, IsToProve, IsToReport}
 use Rattle.commands.specs.Certify.{IsReplyToCertify, IsToCertify, TellsFile, output_too_long}
 use Rattle.commands.specs.Replay.{IsReplyToReplay, IsToReplay, IsTraceOf}
 use Rattle.commands.specs.Replies.{IsReply, IsReplyToRead, IsReplyToWork}
@@ -34,19 +36,26 @@ analysed rule all program reply short a (inl (long, is)) = absurd (omega arith)
 analysed rule all program reply short a (inr (fits, inl (report, answers, is, e))) = zero-or-one _ reply.status (ap (λ r. r.status) e)
 analysed rule all program reply short a (inr (fits, inr (refusal, is, e))) = absurd (not-refused all program refusal a is)
 
-pub complete : (words : List (List ℕ)) (before after : Option (List ℕ)) (reply : Reply) → IsToAnalyse words before → IsReply words before after reply
-    → (reply.status ≡ AllProved) ⊎ (reply.status ≡ SomeUnproved)
-complete words before after reply a answer =
-    let read : IsReplyToRead most_bytes IsReplyToAnalyse before after reply = subst (λ work. IsReplyToWork work before after reply) a.asked answer in
-    let all = whole-input most_bytes a.input read.input a.short (subst (λ before. IsInput most_bytes before read.input) a.whole read.is_input) in
-    analysed 2 a.input a.program reply a.short a.accepted (subst (λ input. IsReplyToAnalyse input reply) all read.is_reply)
+-- Work whose reply is a report under a rule, and what is asked of all that the source has.
+module _ (work : Work) (rule : ℕ) (words : List (List ℕ)) (before after : Option (List ℕ)) (reply : Reply) (a : IsToReport work words before) where
+  -- all of the text is read, and its report answered
+  pub text-answered : IsReplyToRead most_bytes (IsReplyUnder rule) before after reply → IsReplyUnder rule a.input reply
+  text-answered read =
+      let all = whole-input most_bytes a.input read.input a.short (subst (λ before. IsInput most_bytes before read.input) a.whole read.is_input) in
+      subst (λ input. IsReplyUnder rule input reply) all read.is_reply
 
-pub complete-prove : (words : List (List ℕ)) (before after : Option (List ℕ)) (reply : Reply) → IsToProve words before → IsReply words before after reply
-    → (reply.status ≡ AllProved) ⊎ (reply.status ≡ SomeUnproved)
-complete-prove words before after reply a answer =
-    let read : IsReplyToRead most_bytes IsReplyToProve before after reply = subst (λ work. IsReplyToWork work before after reply) a.asked answer in
-    let all = whole-input most_bytes a.input read.input a.short (subst (λ before. IsInput most_bytes before read.input) a.whole read.is_input) in
-    analysed 4 a.input a.program reply a.short a.accepted (subst (λ input. IsReplyToProve input reply) all read.is_reply)
+  complete-report : IsReplyToRead most_bytes (IsReplyUnder rule) before after reply → (reply.status ≡ AllProved) ⊎ (reply.status ≡ SomeUnproved)
+  complete-report read = analysed rule a.input a.program reply a.short a.accepted (text-answered read)
+
+module _ (words : List (List ℕ)) (before after : Option (List ℕ)) (reply : Reply) where
+  pub complete : IsToAnalyse words before → IsReply words before after reply → (reply.status ≡ AllProved) ⊎ (reply.status ≡ SomeUnproved)
+  complete a answer = complete-report Analyse 2 words before after reply a (subst (λ work. IsReplyToWork work before after reply) a.asked answer)
+
+  pub complete-prove : IsToProve words before → IsReply words before after reply → (reply.status ≡ AllProved) ⊎ (reply.status ≡ SomeUnproved)
+  complete-prove a answer = complete-report Prove 4 words before after reply a (subst (λ work. IsReplyToWork work before after reply) a.asked answer)
+
+  pub complete-facets : IsToFacets words before → IsReply words before after reply → (reply.status ≡ AllProved) ⊎ (reply.status ≡ SomeUnproved)
+  complete-facets a answer = complete-report Facets 3 words before after reply a (subst (λ work. IsReplyToWork work before after reply) a.asked answer)
 
 -- ---- certificate files
 

@@ -1,5 +1,5 @@
 -- What the ends of a run say of executions.
---     sound, sound-prove    a text all of whose assertions are proved
+--     sound, sound-prove, sound-facets    a text all of whose assertions are proved
 --     sound-check    a certificate file that passes
 --     failing        an execution that ends at a failed assertion
 use Rattle.std.proofs.Common.{◌≡◌, ◌≢◌, ℕ, zero, suc, ◌+◌, ◌<◌, ◌≤◌, ◌⊎◌, inl, inr, true, false, cond, List, [], ◌∷◌, length, Option, Some, Result, Ok, Err, refl, sym, ap, subst, ◌∙◌, arith}
@@ -33,7 +33,9 @@ use Rattle.wire.specs.Inputs.{input_of}
 use Rattle.commands.specs.declared.reply.Reply.{Reply}
 use Rattle.commands.specs.declared.status.Status.{Status}
 use Rattle.commands.specs.declared.status.Status.TheVariants.{AllProved, SomeUnproved, NoneFailed, SomeFailed, CheckPassed, CheckFailed}
-use Rattle.commands.specs.Analyse.{IsReplyToAnalyse, IsReplyToProve, IsReplyUnder, IsToAnalyse, IsToProve}
+use Rattle.commands.specs.declared.words.Work.{Work}
+use Rattle.commands.specs.declared.words.Work.TheVariants.{Analyse, Facets, Prove}
+use Rattle.commands.specs.Analyse.{IsReplyUnder, IsToAnalyse, IsToFacets, IsToProve, IsToReport}
 use Rattle.commands.specs.Check.{IsCheckOf, IsReplyToCheck, IsShown, IsToCheck, answers_of, compared_reply, finished_reply, posed_reply, rule_of}
 use Rattle.commands.specs.Replay.{IsReplyToReplay, IsToReplay, IsTraceOf}
 use Rattle.commands.specs.Replies.{IsReply, IsReplyToRead, IsReplyToWork}
@@ -42,7 +44,7 @@ use Rattle.commands.specs.Within.{OrWrong}
 use Rattle.commands.specs.Input.{IsInput}
 use Rattle.commands.specs.Limits.{most_file, most_input}
 use Rattle.commands.specs.Sentences.{AnAssertionFails, IsTrueFile, IsTrueText, NoAssertionFails}
-use Rattle.commands.proofs.Complete.{whole-input}
+use Rattle.commands.proofs.Complete.{text-answered, whole-input}
 
 -- ---- counts of verdicts
 
@@ -99,20 +101,6 @@ sound-text rule all program reply a (inr (fits, inl (report, answers, is, told))
     subst NoAssertionFails same (none-fails is.program report is.covers is.met none)
 sound-text rule all program reply a (inr (fits, inr (refusal, is, told))) e = absurd (cc (sym (ap (λ (r : Reply). r.status) told) ∙ e))
 
-pub sound : (words : List (List ℕ)) (before after : Option (List ℕ)) (reply : Reply) (asked : IsToAnalyse words before) → IsReply words before after reply → reply.status ≡ AllProved
-    → NoAssertionFails asked.program
-sound words before after reply a answer e =
-    let read : IsReplyToRead most_bytes IsReplyToAnalyse before after reply = subst (λ work. IsReplyToWork work before after reply) a.asked answer in
-    let all = whole-input most_bytes a.input read.input a.short (subst (λ before. IsInput most_bytes before read.input) a.whole read.is_input) in
-    sound-text 2 a.input a.program reply a.accepted (subst (λ input. IsReplyToAnalyse input reply) all read.is_reply) e
-
-pub sound-prove : (words : List (List ℕ)) (before after : Option (List ℕ)) (reply : Reply) (asked : IsToProve words before) → IsReply words before after reply → reply.status ≡ AllProved
-    → NoAssertionFails asked.program
-sound-prove words before after reply a answer e =
-    let read : IsReplyToRead most_bytes IsReplyToProve before after reply = subst (λ work. IsReplyToWork work before after reply) a.asked answer in
-    let all = whole-input most_bytes a.input read.input a.short (subst (λ before. IsInput most_bytes before read.input) a.whole read.is_input) in
-    sound-text 4 a.input a.program reply a.accepted (subst (λ input. IsReplyToProve input reply) all read.is_reply) e
-
 -- the text of a report of an accepted text is true of its program
 pub true-report : (rule : ℕ) (all : List ℕ) (program : Program) (answers : List Answer) (report : Report) → Accepts all program → IsAnalysedUnder rule all answers report
     → IsTrueText program (text_of report)
@@ -133,17 +121,33 @@ told-text rule all program reply short a (inr (fits, inl (report, answers, is, t
     subst (IsTrueText program) (sym (ap (λ (r : Reply). r.text) told)) (true-report rule all program answers report a is)
 told-text rule all program reply short a (inr (fits, inr (refusal, is, told))) = absurd (not-refused all program refusal a is)
 
-pub true-text : (words : List (List ℕ)) (before after : Option (List ℕ)) (reply : Reply) (asked : IsToAnalyse words before) → IsReply words before after reply → IsTrueText asked.program reply.text
-true-text words before after reply a answer =
-    let read : IsReplyToRead most_bytes IsReplyToAnalyse before after reply = subst (λ work. IsReplyToWork work before after reply) a.asked answer in
-    let all = whole-input most_bytes a.input read.input a.short (subst (λ before. IsInput most_bytes before read.input) a.whole read.is_input) in
-    told-text 2 a.input a.program reply a.short a.accepted (subst (λ input. IsReplyToAnalyse input reply) all read.is_reply)
+-- work whose reply is a report under a rule
+module _ (work : Work) (rule : ℕ) (words : List (List ℕ)) (before after : Option (List ℕ)) (reply : Reply) (a : IsToReport work words before) where
+  sound-report : IsReplyToRead most_bytes (IsReplyUnder rule) before after reply → reply.status ≡ AllProved → NoAssertionFails a.program
+  sound-report read e = sound-text rule a.input a.program reply a.accepted (text-answered work rule words before after reply a read) e
 
-pub proved-text : (words : List (List ℕ)) (before after : Option (List ℕ)) (reply : Reply) (asked : IsToProve words before) → IsReply words before after reply → IsTrueText asked.program reply.text
-proved-text words before after reply a answer =
-    let read : IsReplyToRead most_bytes IsReplyToProve before after reply = subst (λ work. IsReplyToWork work before after reply) a.asked answer in
-    let all = whole-input most_bytes a.input read.input a.short (subst (λ before. IsInput most_bytes before read.input) a.whole read.is_input) in
-    told-text 4 a.input a.program reply a.short a.accepted (subst (λ input. IsReplyToProve input reply) all read.is_reply)
+  report-text : IsReplyToRead most_bytes (IsReplyUnder rule) before after reply → IsTrueText a.program reply.text
+  report-text read = told-text rule a.input a.program reply a.short a.accepted (text-answered work rule words before after reply a read)
+
+-- each word under its rule
+module _ (words : List (List ℕ)) (before after : Option (List ℕ)) (reply : Reply) where
+  pub sound : (asked : IsToAnalyse words before) → IsReply words before after reply → reply.status ≡ AllProved → NoAssertionFails asked.program
+  sound a answer = sound-report Analyse 2 words before after reply a (subst (λ work. IsReplyToWork work before after reply) a.asked answer)
+
+  pub sound-prove : (asked : IsToProve words before) → IsReply words before after reply → reply.status ≡ AllProved → NoAssertionFails asked.program
+  sound-prove a answer = sound-report Prove 4 words before after reply a (subst (λ work. IsReplyToWork work before after reply) a.asked answer)
+
+  pub sound-facets : (asked : IsToFacets words before) → IsReply words before after reply → reply.status ≡ AllProved → NoAssertionFails asked.program
+  sound-facets a answer = sound-report Facets 3 words before after reply a (subst (λ work. IsReplyToWork work before after reply) a.asked answer)
+
+  pub true-text : (asked : IsToAnalyse words before) → IsReply words before after reply → IsTrueText asked.program reply.text
+  true-text a answer = report-text Analyse 2 words before after reply a (subst (λ work. IsReplyToWork work before after reply) a.asked answer)
+
+  pub proved-text : (asked : IsToProve words before) → IsReply words before after reply → IsTrueText asked.program reply.text
+  proved-text a answer = report-text Prove 4 words before after reply a (subst (λ work. IsReplyToWork work before after reply) a.asked answer)
+
+  pub facets-text : (asked : IsToFacets words before) → IsReply words before after reply → IsTrueText asked.program reply.text
+  facets-text a answer = report-text Facets 3 words before after reply a (subst (λ work. IsReplyToWork work before after reply) a.asked answer)
 
 -- ---- a certificate file
 

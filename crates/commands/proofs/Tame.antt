@@ -20,4 +20,4 @@ owed question a good (inr live) limit = good.allowed.live live limit
 pub tame-texts : TameTextsHaveNoLimit
 tame-texts text answers report is tame =
     let p = analysis_of 2 text is.program is.plan in
-    tame-limitless (with_rule 2 is.program) is.plan p answers report (path_map (IsGood IsFound) AnswersTame p (Done report) [] answers owed is.leads) (is.named refl) tame
+    tame-limitless (with_rule 2 is.program) is.plan p answers report (path_map (IsGood IsFound) AnswersTame p (Done report) [] answers owed is.leads) (is.named record { no_phases = refl; no_facets = refl }) tame

@@ -1,4 +1,4 @@
--- What is answered to `cra analyse` and to `cra prove`: the text of a report.
+-- What is answered to `cra analyse`, `cra prove` and `cra facets`: the text of a report.
 use Rattle.std.specs.Prelude.{◌≡◌, ℕ, ◌≤◌, ◌==◌, ◌-◌, List, length, Option, Some, if◌then◌else◌}
 use Rattle.farkas_check.specs.declared.answer.Answer.{Answer}
 use Rattle.syntax_tree.specs.declared.program.Program.{Program}
@@ -8,7 +8,8 @@ use Rattle.summary_cache.specs.Accepted.{Accepts}
 use Rattle.summary_cache.specs.Limits.{most_bytes}
 use Rattle.commands.specs.declared.reply.Reply.{Reply}
 use Rattle.commands.specs.declared.status.Status.TheVariants as ended
-use Rattle.commands.specs.declared.words.Work.TheVariants.{Analyse, Prove}
+use Rattle.commands.specs.declared.words.Work.{Work}
+use Rattle.commands.specs.declared.words.Work.TheVariants.{Analyse, Facets, Prove}
 use Rattle.commands.specs.Stated.{IsAnalysedUnder}
 use Rattle.commands.specs.Within.{OrRefused, Within}
 use Rattle.commands.specs.Words.{work_of}
@@ -39,21 +40,28 @@ IsReplyToAnalyse = IsReplyUnder 2
 abbrev pub IsReplyToProve : List ℕ → Reply → Type 0
 IsReplyToProve = IsReplyUnder 4
 
--- The words ask for the analysis of all that the source has: a text within the limit that is
--- accepted (`Accepts` of `summary_cache`, `specs/Accepted`).
-pub record IsToAnalyse (words : List (List ℕ)) (left : Option (List ℕ)) : Type 0 where
-  pub asked : work_of words ≡ Some Analyse
+-- its report under the rule of facets
+abbrev pub IsReplyToFacets : List ℕ → Reply → Type 0
+IsReplyToFacets = IsReplyUnder 3
+
+-- The words ask for this work on all that the source has: a text within the limit that is accepted
+-- (`Accepts` of `summary_cache`, `specs/Accepted`).
+pub record IsToReport (work : Work) (words : List (List ℕ)) (left : Option (List ℕ)) : Type 0 where
+  pub asked : work_of words ≡ Some work
   pub input : List ℕ
   pub whole : left ≡ Some input
   pub short : length input ≤ most_bytes
   pub program : Program
   pub accepted : Accepts input program
 
--- the words ask for what can be proved of such a text
-pub record IsToProve (words : List (List ℕ)) (left : Option (List ℕ)) : Type 0 where
-  pub asked : work_of words ≡ Some Prove
-  pub input : List ℕ
-  pub whole : left ≡ Some input
-  pub short : length input ≤ most_bytes
-  pub program : Program
-  pub accepted : Accepts input program
+-- the words ask for the analysis of such a text
+abbrev pub IsToAnalyse : List (List ℕ) → Option (List ℕ) → Type 0
+IsToAnalyse words left = IsToReport Analyse words left
+
+-- the words ask for what can be proved of it
+abbrev pub IsToProve : List (List ℕ) → Option (List ℕ) → Type 0
+IsToProve words left = IsToReport Prove words left
+
+-- the words ask for its report along facets
+abbrev pub IsToFacets : List (List ℕ) → Option (List ℕ) → Type 0
+IsToFacets words left = IsToReport Facets words left

@@ -28,6 +28,7 @@ commands =
     (with_subcommand
     (with_subcommand
     (with_subcommand
+    (with_subcommand
     (with_subcommand (with_subcommand (with_subcommand (with_subcommand (with_subcommand top
     (plain (codes "analyse")))
     (plain (codes "certify")))
@@ -37,7 +38,8 @@ commands =
     (plain (codes "renew")))
     (plain (codes "replay")))
     (with_rule (new_app (codes "cost")) name_rule).top)
-    (plain (codes "prove"))
+    (plain (codes "prove")))
+    (plain (codes "facets"))
 
 -- what words ask for that name this subcommand
 abbrev pub matched_work : Option (List ℕ) → List (List ℕ) → Option Work

@@ -5,8 +5,8 @@ use Rattle.std.specs.Io.KnownBytes.{Consumes}
 use Rattle.summary_cache.specs.Limits.{most_bytes}
 use Rattle.commands.specs.declared.reply.Reply.{Reply}
 use Rattle.commands.specs.declared.words.Work.{Work}
-use Rattle.commands.specs.declared.words.Work.TheVariants.{Analyse, Certify, Check, Edit, Sample, Renew, Replay, Cost, Prove, Help, Version}
-use Rattle.commands.specs.Analyse.{IsReplyToAnalyse, IsReplyToProve}
+use Rattle.commands.specs.declared.words.Work.TheVariants.{Analyse, Certify, Check, Edit, Sample, Renew, Replay, Cost, Prove, Facets, Help, Version}
+use Rattle.commands.specs.Analyse.{IsReplyToAnalyse, IsReplyToFacets, IsReplyToProve}
 use Rattle.commands.specs.Certify.{IsReplyToCertify}
 use Rattle.commands.specs.Check.{IsReplyToCheck}
 use Rattle.commands.specs.Cost.{IsReplyToCost}
@@ -39,6 +39,8 @@ IsReplyToWork (Some Analyse) before after reply = IsReplyToRead most_bytes IsRep
     after reply
 IsReplyToWork (Some Prove) before after reply = IsReplyToRead most_bytes IsReplyToProve before after
     reply
+IsReplyToWork (Some Facets) before after reply = IsReplyToRead most_bytes IsReplyToFacets before
+    after reply
 IsReplyToWork (Some Certify) before after reply = IsReplyToRead most_bytes IsReplyToCertify before
     after reply
 IsReplyToWork (Some Check) before after reply = IsReplyToRead most_file IsReplyToCheck before after

@@ -14,7 +14,7 @@ use Rattle.summary_cache.specs.Stated.{IsAnalysedBy}
 abbrev pub IsAnalysedUnder : ℕ → List ℕ → List Answer → Report → Type 0
 IsAnalysedUnder rule text answers report = IsAnalysedBy IsFound rule text answers report
 
--- so under the rule of every word but `prove`
+-- so under the rule of every word but `prove` and `facets`
 abbrev pub IsAnalysed : List ℕ → List Answer → Report → Type 0
 IsAnalysed text answers report = IsAnalysedUnder 2 text answers report
 

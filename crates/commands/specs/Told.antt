@@ -6,9 +6,10 @@ use Rattle.commands.specs.declared.status.Status.TheVariants as ended
 -- the help: the usage, and a line for each command
 abbrev pub help_text : List ℕ
 help_text =
-    codes "cra: a verified analyser of numeric C\n\nusage: cra analyse | certify | check | edit | sample N | renew | replay | cost NAME\n\n"
+    codes "cra: a verified analyser of numeric C\n\nusage: cra analyse | certify | check | edit | sample N | renew | replay | facets | cost NAME\n\n"
     ++ codes "  analyse    reads the text of a program, and prints what is proved of it\n"
     ++ codes "  prove      reads the text of a program, and prints what is proved of it with phases of loops and products of rows\n"
+    ++ codes "  facets     reads the text of a program, and prints what is proved of it with loops bounded along the facets of their changes\n"
     ++ codes "  certify    reads the text of a program, and prints its report with all that shows it, as JSON\n"
     ++ codes "  check      reads a certificate file, and prints whether its answers show its report\n"
     ++ codes "  edit       reads a text with edits as JSON, and prints what comes of each version, and the report of the last\n"
@@ -31,5 +32,5 @@ version_reply = record { status = ended.Told; text = codes "cra 0.1.0\n" }
 abbrev pub usage_reply : Reply
 usage_reply = record {
   status = ended.WrongWords;
-  text = codes "usage: cra analyse | certify | check | edit | sample N | renew | replay | cost NAME\n";
+  text = codes "usage: cra analyse | certify | check | edit | sample N | renew | replay | facets | cost NAME\n";
 }

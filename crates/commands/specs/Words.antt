@@ -5,7 +5,7 @@ use Rattle.std.specs.Str.{bytes_eq}
 use Rattle.std.specs.Str.Parse.{digits_value}
 use Rattle.c_lexer.specs.Kinds.{is_word_shape}
 use Rattle.commands.specs.declared.words.Work.{Work}
-use Rattle.commands.specs.declared.words.Work.TheVariants.{Analyse, Certify, Check, Edit, Sample, Renew, Replay, Cost, Prove, Help, Version}
+use Rattle.commands.specs.declared.words.Work.TheVariants.{Analyse, Certify, Check, Edit, Sample, Renew, Replay, Cost, Prove, Facets, Help, Version}
 
 -- what one word asks for
 abbrev pub work_named : List ℕ → Option Work
@@ -17,8 +17,9 @@ work_named word =
     else (if bytes_eq word (codes "renew") then Some Renew
     else (if bytes_eq word (codes "replay") then Some Replay
     else (if bytes_eq word (codes "prove") then Some Prove
+    else (if bytes_eq word (codes "facets") then Some Facets
     else (if bytes_eq word (codes "--help") then Some Help
-    else (if bytes_eq word (codes "--version") then Some Version else None))))))))
+    else (if bytes_eq word (codes "--version") then Some Version else None)))))))))
 
 -- whether a byte is a decimal digit
 abbrev pub is_digit : ℕ → Bool
@@ -72,6 +73,7 @@ reads_source (Some Renew) = true
 reads_source (Some Replay) = true
 reads_source (Some (Cost name)) = true
 reads_source (Some Prove) = true
+reads_source (Some Facets) = true
 reads_source (Some Help) = false
 reads_source (Some Version) = false
 reads_source None = false

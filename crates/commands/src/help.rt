@@ -10,10 +10,11 @@ use std::alloc::{AllocError, Global};
 const HELP: &[u8] = b"\
 cra: a verified analyser of numeric C
 
-usage: cra analyse | certify | check | edit | sample N | renew | replay | cost NAME
+usage: cra analyse | certify | check | edit | sample N | renew | replay | facets | cost NAME
 
   analyse    reads the text of a program, and prints what is proved of it
   prove      reads the text of a program, and prints what is proved of it with phases of loops and products of rows
+  facets     reads the text of a program, and prints what is proved of it with loops bounded along the facets of their changes
   certify    reads the text of a program, and prints its report with all that shows it, as JSON
   check      reads a certificate file, and prints whether its answers show its report
   edit       reads a text with edits as JSON, and prints what comes of each version, and the report of the last
@@ -49,6 +50,6 @@ pub fn usage_reply(alloc: Global) -> Result<Reply, AllocError>
     line(
         alloc,
         Status::WrongWords,
-        b"usage: cra analyse | certify | check | edit | sample N | renew | replay | cost NAME\n",
+        b"usage: cra analyse | certify | check | edit | sample N | renew | replay | facets | cost NAME\n",
     )
 }

@@ -2,6 +2,6 @@
 ghost use Rattle.commands.specs.Tame.{TameTextsHaveNoLimit};
 
 /// Where every question posed is tame, the report of a text has no limit.
-pub fn law_of_tame_texts()
+pub fn tame_texts_have_no_limit()
     ensures { TameTextsHaveNoLimit }
 {}

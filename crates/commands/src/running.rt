@@ -3,7 +3,7 @@ ghost use Rattle.std.specs.Io.KnownBytes.{Appends};
 ghost use Rattle.whole_numbers.specs.Counters.{Rose};
 ghost use Rattle.commands.specs.Output.{TookPart};
 ghost use Rattle.commands.specs.declared.reply.Reply.{Reply as Answer};
-ghost use Rattle.commands.specs.Analyse.{IsToAnalyse, IsToProve};
+ghost use Rattle.commands.specs.Analyse.{IsToAnalyse, IsToFacets, IsToProve};
 ghost use Rattle.commands.specs.Bounded.{TellsTrueBounds};
 ghost use Rattle.commands.specs.Certify.{IsToCertify};
 ghost use Rattle.commands.specs.Check.{IsToCheck, IsToCheckCertified};
@@ -17,14 +17,14 @@ ghost use Rattle.commands.specs.Status.{IsAnswer};
 ghost use Rattle.commands.specs.Tame.{TameTextsHaveNoLimit};
 ghost use Rattle.commands.specs.Words.{reads_source, work_of};
 
-use crate::analysing::{analyse_reply, prove_reply};
+use crate::analysing::{analyse_reply, facets_reply, prove_reply};
 use crate::certifying::certify_reply;
 use crate::checking::check_reply;
 use crate::costing::cost_reply;
 use crate::editing::edit_reply;
 use crate::help::{help_reply, usage_reply, version_reply};
 use crate::input::{InputError, read_input};
-use crate::laws::law_of_tame_texts;
+use crate::laws::tame_texts_have_no_limit;
 use crate::limits::{MOST_FILE, MOST_INPUT, PIECE};
 use crate::output::write_all;
 use crate::renewing::renew_reply;
@@ -60,6 +60,10 @@ fn answer_to<R: Source>(
         Some(Work::Prove) => {
             let input = read_input(alloc, source, MOST_BYTES, PIECE)?;
             Ok(prove_reply(alloc, &input)?)
+        }
+        Some(Work::Facets) => {
+            let input = read_input(alloc, source, MOST_BYTES, PIECE)?;
+            Ok(facets_reply(alloc, &input)?)
         }
         Some(Work::Certify) => {
             let input = read_input(alloc, source, MOST_BYTES, PIECE)?;
@@ -131,6 +135,12 @@ pub fn run<R: Source, W: Sink>(
     ensures told_prove { (asked : IsToProve (map string_bytes words.now) (R.left source.old))
         → IsAnswer result
         → TellsTrueText asked.program (W.taken sink.old) (W.taken sink.new) }
+    // So it does asked for the report along facets.
+    ensures sound_facets { (asked : IsToFacets (map string_bytes words.now) (R.left source.old))
+        → result ≡ Status.AllProved → NoAssertionFails asked.program }
+    ensures told_facets { (asked : IsToFacets (map string_bytes words.now) (R.left source.old))
+        → IsAnswer result
+        → TellsTrueText asked.program (W.taken sink.old) (W.taken sink.new) }
     // Asked for the versions of a text the last of which is accepted, `AllProved` says so of the
     // program of the last one, and the report of that is written behind the lines of the versions.
     ensures sound_edit { (asked : IsToEdit (map string_bytes words.now) (R.left source.old))
@@ -174,6 +184,13 @@ pub fn run<R: Source, W: Sink>(
 
     // So has one of which as much as can be is to be proved.
     ensures complete_prove { IsToProve (map string_bytes words.now) (R.left source.old)
+        → ¬ Rose (R.faults source.old) (R.faults source.new)
+        → ¬ Rose (W.faults sink.old) (W.faults sink.new)
+        → (result ≡ Status.AllProved) ⊎ (result ≡ Status.SomeUnproved)
+        ⊎ (result ≡ Status.WantOfMemory) }
+
+    // So has one whose report along facets is asked for.
+    ensures complete_facets { IsToFacets (map string_bytes words.now) (R.left source.old)
         → ¬ Rose (R.faults source.old) (R.faults source.new)
         → ¬ Rose (W.faults sink.old) (W.faults sink.new)
         → (result ≡ Status.AllProved) ⊎ (result ≡ Status.SomeUnproved)
@@ -255,7 +272,7 @@ pub fn run<R: Source, W: Sink>(
     ensures memory_untouched { result ≡ Status.WantOfMemory → sink.new ≡ sink.old }
 {
     newline_is_read_over();
-    law_of_tame_texts();
+    tame_texts_have_no_limit();
     let reply = match compose(alloc, words, source) {
         Ok(reply) => reply,
         Err(InputError::Failed) => return Status::SourceFailed,

@@ -33,6 +33,8 @@ pub enum Work {
     Cost(Items<u8>),
     /// The report of a text under the rule of phases.
     Prove,
+    /// The report of a text under the rule of facets.
+    Facets,
     Help,
     Version,
 }
@@ -49,6 +51,7 @@ fn work_named(word: &str) -> Option<Work>
         "renew" => Some(Work::Renew),
         "replay" => Some(Work::Replay),
         "prove" => Some(Work::Prove),
+        "facets" => Some(Work::Facets),
         "--help" => Some(Work::Help),
         "--version" => Some(Work::Version),
         _ => None,
@@ -74,7 +77,8 @@ fn command<'a>(alloc: Global) -> Result<Command<'a>, AllocError>
             .subcommand(Command::new(alloc, "renew"))?
             .subcommand(Command::new(alloc, "replay"))?
             .subcommand(cost)?
-            .subcommand(Command::new(alloc, "prove"))?,
+            .subcommand(Command::new(alloc, "prove"))?
+            .subcommand(Command::new(alloc, "facets"))?,
     )
 }
 

@@ -237,6 +237,8 @@ cra edit again
 cra edit --
 cra edit --help
 cra replay --help
+cra facets again
+cra facets --help
 cra --help replay
 cra help
 cra -h

@@ -7,7 +7,7 @@ use std::test::Fail;
 use summary_cache::MOST_BYTES;
 
 const USAGE: &[u8] =
-    b"usage: cra analyse | certify | check | edit | sample N | renew | replay | cost NAME\n";
+    b"usage: cra analyse | certify | check | edit | sample N | renew | replay | facets | cost NAME\n";
 
 const TOO_LONG: &[u8] = b"input is too long\n";
 
@@ -230,33 +230,67 @@ const CERTIFICATES: [(&[u8], &[u8]); 2] = [
     ),
 ];
 
+// Two columns whose changes are bounded along a facet that no stated direction has.
+const SLOPES: &[u8] =
+    b"int main(void) {\n  int n = __VERIFIER_nondet_int();\n  int i = 0;\n  int x = 0;\n  int y = 0;\n  while (i < n) {\n    int c = __VERIFIER_nondet_int();\n    if (c > 0) {\n      x = x + 2;\n      y = y + 1;\n    } else {\n      if (c < 0) x = x + 1;\n    }\n    i = i + 1;\n  }\n  int z = 2 * y - x;\n  assert(z <= 0);\n}\n";
+
 // A loop of two phases, the product of two facts, a recursion by two calls, a sum of products, and a
-// column whose change reads columns of which it is not known what a turn makes of them.
-const PROOFS: [(&[u8], u8, &[u8]); 5] = [
+// column whose change reads columns of which it is not known what a turn makes of them; two slopes
+// along facets and without them, a body beyond the counts of facets, and a text that is refused.
+const PROOFS: [(&str, &[u8], u8, &[u8]); 9] = [
     (
+        "prove",
         b"int main(void) { int t = 0; int h = 0;\n  while (t < 60) { if (t < 20) h = h + 3; else h = h - 1; t = t + 1; }\n  assert(h == 20); }\n",
         0,
         b"procedure main\ncase 1\n  $ret = $1\nassertion 1 at 3:3 proved\ntotal 1 proved, 0 unproved\n",
     ),
     (
+        "prove",
         b"int main(void) { int a = __VERIFIER_nondet_int(); int b = __VERIFIER_nondet_int();\n  assume(a >= 3); assume(b >= 0); assert(a * b >= 3 * b); assert(a * b >= 1); }\n",
         1,
         b"procedure main\ncase 1\n  -$1 + 3 <= 0\n  -$2 <= 0\n  -$1*$2 + 3*$2 <= 0\n  -$1*$2 + 1 <= 0\n  $ret = $3\nassertion 1 at 2:35 proved\nassertion 2 at 2:59 unproved\n  -$1 + 3 <= 0\n  -$2 <= 0\n  -$1*$2 + 3*$2 <= 0\n  $1*$2 <= 0\n  a = $1\n  b = $2\n  point $1*$2 = 0, $1 = 3, $2 = 0\ntotal 1 proved, 1 unproved\n",
     ),
     (
+        "prove",
         b"int f(int n) { if (n <= 1) return 1; int a = f(n - 1); int b = f(n - 2); return a + b; }\nint main(void) { int n = __VERIFIER_nondet_int(); int r = f(n); assert(r >= n); }\n",
         0,
         b"procedure f\ncase 1\n  n - 1 <= 0\n  $ret = 1\ncase 2\n  -n + 2 <= 0\n  -$1 + 1 <= 0\n  n - $1 - 1 <= 0\n  -$2 + 1 <= 0\n  n - $2 - 2 <= 0\n  $ret = $1 + $2\nnote dropped n - 3 <= 0 point n = 4, $1 = 4, $2 = 4\nnote dropped $ret - 4 <= 0 point n = 2, $1 = 4, $2 = 4\nprocedure main\ncase 1\n  $1 - 1 <= 0\n  $ret = $2\ncase 2\n  -$1 + 2 <= 0\n  -$2 + 1 <= 0\n  $1 - $2 - 1 <= 0\n  -$3 + 1 <= 0\n  $1 - $3 - 2 <= 0\n  $1 - $2 - $3 <= 0\n  $ret = $4\nassertion 1 at 2:65 proved\ntotal 1 proved, 0 unproved\n",
     ),
     (
+        "prove",
         b"int main(void) { int w = __VERIFIER_nondet_int(); int n = __VERIFIER_nondet_int(); int i = 0; int a = 0;\n  assume(n >= 1); while (i < n) { a = a + w * i; i = i + 1; }\n  assert(2 * a == w * n * n - w * n); }\n",
         0,
         b"procedure main\ncase 1\n  -$3 + 1 <= 0\n  $1*$3*$3 - $1*$3 - 2*$2 = 0\n  $ret = $4\nassertion 1 at 3:3 proved\ntotal 1 proved, 0 unproved\n",
     ),
     (
+        "prove",
         b"int main(void) { int n = __VERIFIER_nondet_int(); int m = __VERIFIER_nondet_int();\n  int i = 0; int x = 0; int y = 0; int v = 0; int w = 0;\n  while (i < m) { int r = __VERIFIER_nondet_int();\n    w = w + v * n; v = v + x + y; x = x + r; y = y - r + 1; i = i + 1; }\n  assert(w == 0); }\n",
         1,
         b"procedure main\ncase 1\n  $1 <= 0\n  $ret = $2\ncase 2\n  $2*$2 - 2*$1 - $2 = 0\n  -$2 + 1 <= 0\n  $ret = $3\nassertion 1 at 5:3 unproved\n  $6*$6 - 2*$3 - $6 = 0\n  -$6 + 1 <= 0\n  $4 + 1 <= 0\n  n = $1\n  m = $6\n  i = $6\n  x = -$2 + $6\n  y = $2\n  v = $3\n  w = $4\n  r = $5\n  point $6*$6 = 1, $3 = 0, $4 = -1, $6 = 1\ntotal 0 proved, 1 unproved\n",
+    ),
+    (
+        "facets",
+        SLOPES,
+        0,
+        b"procedure main\ncase 1\n  $1 <= 0\n  $ret = $2\ncase 2\n  -$3 + 1 <= 0\n  -$2 <= 0\n  $1 - $2 - $3 <= 0\n  -$1 + 2*$2 <= 0\n  $ret = $4\nassertion 1 at 17:3 proved\ntotal 1 proved, 0 unproved\n",
+    ),
+    (
+        "analyse",
+        SLOPES,
+        1,
+        b"procedure main\ncase 1\n  $1 <= 0\n  $ret = $2\ncase 2\n  -$3 + 1 <= 0\n  $2 - $3 <= 0\n  -$2 <= 0\n  $1 - $2 - $3 <= 0\n  -$1 + $2 <= 0\n  -$1 + 2*$2 <= 0\n  $ret = $4\nassertion 1 at 17:3 unproved\n  -$4 + 1 <= 0\n  $2 - $4 <= 0\n  -$2 <= 0\n  $1 - $2 - $4 <= 0\n  -$1 + $2 <= 0\n  $1 - 2*$2 + 1 <= 0\n  n = $4\n  i = $4\n  x = $1\n  y = $2\n  c = $3\n  z = -$1 + 2*$2\n  point $1 = 1, $2 = 1, $4 = 1\ntotal 0 proved, 1 unproved\n",
+    ),
+    (
+        "facets",
+        b"int main(void) { int a = 0; int b = 0; int c = 0; int d = 0; int n = __VERIFIER_nondet_int(); int i = 0;\n  while (i < n) { a = a + 1; b = b + 1; c = c + 1; d = d + 1; i = i + 1; }\n  assert(a == d); }\n",
+        0,
+        b"procedure main\ncase 1\n  $1 <= 0\n  $ret = $2\ncase 2\n  -$1 + 1 <= 0\n  $ret = $2\nnote facets beyond\nassertion 1 at 3:3 proved\ntotal 1 proved, 0 unproved\n",
+    ),
+    (
+        "facets",
+        b"int main(void) { @ }",
+        3,
+        b"refused byte at 1:18\n",
     ),
 ];
 
@@ -444,11 +478,11 @@ fn replays(rt: HostRuntime) -> Result<(), Fail> {
     Ok(())
 }
 
-// What an independent model of the rules proves of texts with phases and with products.
+// What an independent model of the rules proves of texts with phases, with products and with facets.
 #[test]
 fn proofs(rt: HostRuntime) -> Result<(), Fail> {
-    for (input, status, text) in PROOFS {
-        ends(rt.alloc(), &rt, &["cra", "prove"], input, status, text)?;
+    for (word, input, status, text) in PROOFS {
+        ends(rt.alloc(), &rt, &["cra", word], input, status, text)?;
     }
     Ok(())
 }

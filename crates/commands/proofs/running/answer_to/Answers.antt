@@ -1,11 +1,11 @@
 use Rattle.std.proofs.Common.{◌≡◌, rules, List, ℕ, Option, Some, subst, sym}
 use Rattle.std.specs.Io.KnownBytes.{Consumes}
 use Rattle.commands.specs.declared.reply.Reply.{Reply}
-use Rattle.commands.specs.declared.words.Work.TheVariants.{Analyse, Certify, Check, Edit, Renew, Replay, Cost, Prove}
+use Rattle.commands.specs.declared.words.Work.TheVariants.{Analyse, Certify, Check, Edit, Renew, Replay, Cost, Prove, Facets}
 use Rattle.commands.specs.Input.{IsInput}
 use Rattle.summary_cache.specs.Limits.{most_bytes}
 use Rattle.commands.specs.Limits.{most_file, most_input}
-use Rattle.commands.specs.Analyse.{IsReplyToAnalyse, IsReplyToProve}
+use Rattle.commands.specs.Analyse.{IsReplyToAnalyse, IsReplyToFacets, IsReplyToProve}
 use Rattle.commands.specs.Certify.{IsReplyToCertify}
 use Rattle.commands.specs.Check.{IsReplyToCheck}
 use Rattle.commands.specs.Cost.{IsReplyToCost}
@@ -42,6 +42,18 @@ returns-in_ok-prove_reply-in-Some-Prove-clause-answer g c =
     let asked : c.in-Some-Prove.field-0 ≡ Prove = search rules in
     subst (λ work. IsReplyToWork work before after reply) (sym c.in-Some-Prove.is) (subst (λ work. IsReplyToWork (Some work) before after reply) (sym asked)
     (to-read most_bytes IsReplyToProve before after c.deref-in-Some-Prove.result.now reply is front c.in_ok-prove_reply-in-Some-Prove.ensures.reply))
+
+pub returns-in_ok-facets_reply-in-Some-Facets-clause-answer :
+    goal.returns-in_ok-facets_reply-in-Some-Facets-clause-answer
+returns-in_ok-facets_reply-in-Some-Facets-clause-answer g c =
+    let before = g.R.Source.left c.args.source.now in
+    let after = g.R.Source.left c.read_input-in-Some-Facets.new.source in
+    let reply = c.in_ok-facets_reply-in-Some-Facets.field-0 in
+    let is : IsInput most_bytes before c.deref-in-Some-Facets.result.now = search rules in
+    let front : Consumes before after c.deref-in-Some-Facets.result.now = search rules in
+    let asked : c.in-Some-Facets.field-0 ≡ Facets = search rules in
+    subst (λ work. IsReplyToWork work before after reply) (sym c.in-Some-Facets.is) (subst (λ work. IsReplyToWork (Some work) before after reply) (sym asked)
+    (to-read most_bytes IsReplyToFacets before after c.deref-in-Some-Facets.result.now reply is front c.in_ok-facets_reply-in-Some-Facets.ensures.reply))
 
 pub returns-in_ok-certify_reply-in-Some-Certify-clause-answer :
     goal.returns-in_ok-certify_reply-in-Some-Certify-clause-answer

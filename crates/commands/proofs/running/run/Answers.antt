@@ -3,11 +3,11 @@ use Rattle.std.specs.Io.KnownBytes.{Appends}
 use Rattle.report.specs.Text.{text_of}
 use Rattle.commands.specs.declared.status.Status.{Status}
 use Rattle.commands.specs.declared.status.Status.TheVariants.{AllProved, SomeUnproved, NoneFailed, SomeFailed, Certified, CheckFailed, CheckPassed, CostsTold, NoGlobal, TooLong, WantOfMemory}
-use Rattle.commands.proofs.Complete.{complete, complete-certify, complete-prove, complete-replay}
+use Rattle.commands.proofs.Complete.{complete, complete-certify, complete-facets, complete-prove, complete-replay}
 use Rattle.commands.proofs.Costs.{complete-cost, sound-cost}
 use Rattle.commands.proofs.Edits.{complete-edit, sound-edit, true-end}
 use Rattle.commands.proofs.FilePasses.{certified-passes, certified-renewed, complete-check, complete-renew}
-use Rattle.commands.proofs.Sentences.{failing, proved-text, sound, sound-check, sound-prove, true-text}
+use Rattle.commands.proofs.Sentences.{facets-text, failing, proved-text, sound, sound-check, sound-facets, sound-prove, true-text}
 use Rattle.commands.proofs.running.run.Goals as goal
 
 or-memory : (status : Status) → (status ≡ AllProved) ⊎ (status ≡ SomeUnproved) → (status ≡ AllProved) ⊎ (status ≡ SomeUnproved) ⊎ (status ≡ WantOfMemory)
@@ -21,6 +21,10 @@ returns-in-Ok-write_all-clause-complete g c to_analyse source sink = or-memory c
 -- what was to be proved has its report
 pub returns-in-Ok-write_all-clause-complete_prove : goal.returns-in-Ok-write_all-clause-complete_prove
 returns-in-Ok-write_all-clause-complete_prove g c to_prove source sink = or-memory c.in-Ok.reply.status (complete-prove _ _ _ c.in-Ok.reply to_prove c.in-Ok.ensures.answer)
+
+-- what was to be bounded along facets has its report
+pub returns-in-Ok-write_all-clause-complete_facets : goal.returns-in-Ok-write_all-clause-complete_facets
+returns-in-Ok-write_all-clause-complete_facets g c to_facets source sink = or-memory c.in-Ok.reply.status (complete-facets _ _ _ c.in-Ok.reply to_facets c.in-Ok.ensures.answer)
 
 -- what was to be edited has the report of its last version
 pub returns-in-Ok-write_all-clause-complete_edit : goal.returns-in-Ok-write_all-clause-complete_edit
@@ -85,6 +89,14 @@ pub returns-in-Ok-write_all-clause-told_prove : goal.returns-in-Ok-write_all-cla
 returns-in-Ok-write_all-clause-told_prove g c asked is =
     let written : Appends (g.W.Sink.taken c.args.sink.now) (g.W.Sink.taken c.write_all.new.sink) c.in-Ok.reply.text = search rules in
     (c.in-Ok.reply.text, proved-text _ _ _ c.in-Ok.reply asked c.in-Ok.ensures.answer, written)
+
+pub returns-in-Ok-write_all-clause-sound_facets : goal.returns-in-Ok-write_all-clause-sound_facets
+returns-in-Ok-write_all-clause-sound_facets g c asked is = sound-facets _ _ _ c.in-Ok.reply asked c.in-Ok.ensures.answer is
+
+pub returns-in-Ok-write_all-clause-told_facets : goal.returns-in-Ok-write_all-clause-told_facets
+returns-in-Ok-write_all-clause-told_facets g c asked is =
+    let written : Appends (g.W.Sink.taken c.args.sink.now) (g.W.Sink.taken c.write_all.new.sink) c.in-Ok.reply.text = search rules in
+    (c.in-Ok.reply.text, facets-text _ _ _ c.in-Ok.reply asked c.in-Ok.ensures.answer, written)
 
 pub returns-in-Ok-write_all-clause-sound_edit : goal.returns-in-Ok-write_all-clause-sound_edit
 returns-in-Ok-write_all-clause-sound_edit g c asked is = sound-edit _ _ _ c.in-Ok.reply asked c.in-Ok.ensures.answer is

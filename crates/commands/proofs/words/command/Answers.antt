@@ -27,4 +27,5 @@ returns c =
     let sixth = c.in_ok-subcommand-6.ensures.shape (search rules) ∙ ap₂ with_subcommand fifth (ap (λ (a : App). a.top) c.new-10.ensures.app) in
     let seventh = c.in_ok-subcommand-7.ensures.shape (search rules) ∙ ap₂ with_subcommand sixth (ap (λ (a : App). a.top) c.new-11.ensures.app) in
     let eighth = c.in_ok-subcommand-8.ensures.shape (c.in_ok-cost.ensures.globals ∙ ap₂ (λ one other. one || other) c.new-4.ensures.local name_global) ∙ ap₂ with_subcommand seventh (ap (λ (a : App). a.top) cost_is) in
-    c.in_ok-subcommand-9.ensures.shape (search rules) ∙ ap₂ with_subcommand eighth (ap (λ (a : App). a.top) c.new-12.ensures.app)
+    let ninth = c.in_ok-subcommand-9.ensures.shape (search rules) ∙ ap₂ with_subcommand eighth (ap (λ (a : App). a.top) c.new-12.ensures.app) in
+    c.in_ok-subcommand-10.ensures.shape (search rules) ∙ ap₂ with_subcommand ninth (ap (λ (a : App). a.top) c.new-13.ensures.app)

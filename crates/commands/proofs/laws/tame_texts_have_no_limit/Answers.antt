@@ -1,5 +1,5 @@
 use Rattle.commands.proofs.Tame.{tame-texts}
-use Rattle.commands.proofs.laws.law_of_tame_texts.Goals as goal
+use Rattle.commands.proofs.laws.tame_texts_have_no_limit.Goals as goal
 
 pub returns : goal.returns
 returns c = tame-texts
