@@ -12,4 +12,4 @@ mod terms;
 
 pub use group::KnownGroup;
 pub use groups::are_alike;
-pub use laws::law_of_alike_parts;
+pub use laws::alike_parts_are_one;

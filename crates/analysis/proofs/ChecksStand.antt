@@ -16,6 +16,7 @@ use Rattle.syntax_tree.specs.declared.program.Proc.{Proc}
 use Rattle.syntax_tree.specs.declared.program.Program.{Program}
 use Rattle.syntax_tree.specs.Code.{Check}
 use Rattle.syntax_tree.specs.Value.{State}
+use Rattle.vocabularies.specs.Procs.{IsProcOf}
 use Rattle.execution.specs.Machine.{Do, Frame, Item}
 use Rattle.execution.specs.Execution.{Fails}
 use Rattle.flow_graph.specs.declared.parts.Graph.{Graph}
@@ -35,7 +36,7 @@ use Rattle.analysis.specs.Judging.{check_with, checks_from, checks_of}
 -- ---- loops
 
 -- those of one more procedure
-pub proc-next : (program : Program) (i : ℕ) (p : Proc) (made next whole : List CheckAt) → i < length program.procs → slice_get program.procs i ≡ Some p
+pub proc-next : (program : Program) (i : ℕ) (p : Proc) (made next whole : List CheckAt) → i < length program.procs → IsProcOf program i p
     → made ++ checks_of i (drop i program.procs) ≡ whole → next ≡ made ++ checks_from i 0 (graph_of program i).checks → next ++ checks_of (i + 1) (drop (i + 1) program.procs) ≡ whole
 proc-next program i p made next whole lt is so_far more =
     let rest = checks_of (i + 1) (drop (i + 1) program.procs) in
@@ -45,7 +46,7 @@ proc-next program i p made next whole lt is so_far more =
     ∙ ap (λ l. made ++ checks_of i l) (sym split) ∙ so_far
 
 -- the graph of one more procedure
-pub graph-next : (program : Program) (i : ℕ) (p : Proc) (made next : List Graph) (whole : List FlowGraph) → i < length program.procs → slice_get program.procs i ≡ Some p
+pub graph-next : (program : Program) (i : ℕ) (p : Proc) (made next : List Graph) (whole : List FlowGraph) → i < length program.procs → IsProcOf program i p
     → map plain made ++ map own_graph (drop i program.procs) ≡ whole → map plain next ≡ map plain made ++ graph_of program i ∷ [] → map plain next ++ map own_graph (drop (i + 1) program.procs) ≡ whole
 graph-next program i p made next whole lt is so_far more =
     let rest = map own_graph (drop (i + 1) program.procs) in
@@ -66,7 +67,7 @@ procs-end program i standing end graphs checks =
 
 -- ---- the graph of a procedure
 
-module _ (program : Program) (graphs : List Graph) (same : map plain graphs ≡ map own_graph program.procs) (proc : ℕ) (p : Proc) (is : slice_get program.procs proc ≡ Some p) where
+module _ (program : Program) (graphs : List Graph) (same : map plain graphs ≡ map own_graph program.procs) (proc : ℕ) (p : Proc) (is : IsProcOf program proc p) where
   pub graph-within : proc < length graphs
   graph-within =
       let below = slice_get_within program.procs proc p is in
@@ -104,7 +105,7 @@ find-none test (y ∷ xs) e = go (test y) refl e (find-none test xs)
 
 module _ (program : Program) where
   -- those of a procedure stand there
-  of-proc : (proc : ℕ) (p : Proc) → slice_get program.procs proc ≡ Some p → (check : ℕ) (checks : List CheckPlace)
+  of-proc : (proc : ℕ) (p : Proc) → IsProcOf program proc p → (check : ℕ) (checks : List CheckPlace)
       → ((k : ℕ) (at : CheckPlace) → slice_get checks k ≡ Some at → slice_get (own_graph p).checks (check + k) ≡ Some at) → AllByRecursion (IsCheckOf program) (checks_from proc check checks)
   of-proc proc p is check [] there = tt
   of-proc proc p is check (at ∷ checks) there = (
@@ -115,14 +116,14 @@ module _ (program : Program) where
   of-procs : (proc : ℕ) (procs : List Proc) → ((k : ℕ) (p : Proc) → slice_get procs k ≡ Some p → slice_get program.procs (proc + k) ≡ Some p) → AllByRecursion (IsCheckOf program) (checks_of proc procs)
   of-procs proc [] there = tt
   of-procs proc (p ∷ procs) there =
-      let is : slice_get program.procs proc ≡ Some p = subst (λ n. slice_get program.procs n ≡ Some p) (omega arith) (there 0 p refl) in
+      let is : IsProcOf program proc p = subst (λ n. IsProcOf program n p) (omega arith) (there 0 p refl) in
       each-append (IsCheckOf program) (checks_from proc 0 (own_graph p).checks) (checks_of (proc + 1) procs)
       (of-proc proc p is 0 (own_graph p).checks (λ k at e. subst (λ n. slice_get (own_graph p).checks n ≡ Some at) (omega arith) e))
-      (of-procs (proc + 1) procs (λ k q e. subst (λ n. slice_get program.procs n ≡ Some q) (omega arith) (there (suc k) q e)))
+      (of-procs (proc + 1) procs (λ k q e. subst (λ n. IsProcOf program n q) (omega arith) (there (suc k) q e)))
 
   pub check-is : (number : ℕ) (c : CheckAt) → check_with number (checks_of 0 program.procs) ≡ Some c → IsCheckOf program c × (c.number ≡ number)
   check-is number c e =
-      let parts = find-some (IsCheckOf program) (λ (c : CheckAt). c.number == number) (checks_of 0 program.procs) c (of-procs 0 program.procs (λ k p e. subst (λ n. slice_get program.procs n ≡ Some p) (omega arith) e)) e in
+      let parts = find-some (IsCheckOf program) (λ (c : CheckAt). c.number == number) (checks_of 0 program.procs) c (of-procs 0 program.procs (λ k p e. subst (λ n. IsProcOf program n p) (omega arith) e)) e in
       (parts.0, (Decides-eqb c.number number).0 parts.1)
 
 -- what holds of the numbers of all

@@ -18,6 +18,7 @@ use Rattle.flow_graph.proofs.Reaching.{reaches_join}
 use Rattle.leaf_cases.specs.Summaries.{KnowsCallee}
 use Rattle.leaf_cases.proofs.Graphs.{EdgeFits, act-fits}
 use Rattle.transition_formula.specs.Transition.{Transition}
+use Rattle.vocabularies.specs.Procs.{IsProcOf}
 use Rattle.proc_summary.specs.Subject.{own_graph}
 use Rattle.newton_rounds.specs.Laws.{CallsMember, KnowsOthers}
 use Rattle.analysis.specs.declared.found.Found.{Found}
@@ -80,7 +81,7 @@ module _ (program : Program) where
       alone plain q (inr known) = known
       alone plain q (inl one) = absurd (plain (next.recursive.1 (around next.first q one.0 one.1)))
 
-      others : (proc : ℕ) (p : Proc) → Contains group.procs proc → slice_get program.procs proc ≡ Some p → (s : Statement) → IsCallOf (called (code_of p.body)) s → EdgeFits program (width_of program p) s
+      others : (proc : ℕ) (p : Proc) → Contains group.procs proc → IsProcOf program proc p → (s : Statement) → IsCallOf (called (code_of p.body)) s → EdgeFits program (width_of program p) s
           → CallsMember group.procs s ⊎ KnowsCallee found.known s
       others proc p in_group is (Call q args into) calls fits =
           let there = slice_get_within program.procs q fits.callee fits.is in
@@ -96,7 +97,7 @@ module _ (program : Program) where
       others proc p in_group is Continue calls fits = inr tt
       others proc p in_group is Return calls fits = inr tt
 
-      lone : ¬ IsTrue group.recursive → (proc : ℕ) (p : Proc) → Contains group.procs proc → slice_get program.procs proc ≡ Some p → (s : Statement) → IsCallOf (called (code_of p.body)) s → EdgeFits program (width_of program p) s
+      lone : ¬ IsTrue group.recursive → (proc : ℕ) (p : Proc) → Contains group.procs proc → IsProcOf program proc p → (s : Statement) → IsCallOf (called (code_of p.body)) s → EdgeFits program (width_of program p) s
           → KnowsCallee found.known s
       lone plain proc p in_group is (Call q args into) calls fits =
           let there = slice_get_within program.procs q fits.callee fits.is in
@@ -113,7 +114,7 @@ module _ (program : Program) where
       lone plain proc p in_group is Return calls fits = tt
 
       -- a property of the edges of a procedure's graph
-      edges : (P : Statement → Type 0) → IsWellFormed program → (proc : ℕ) (p : Proc) → slice_get program.procs proc ≡ Some p
+      edges : (P : Statement → Type 0) → IsWellFormed program → (proc : ℕ) (p : Proc) → IsProcOf program proc p
           → ((s : Statement) → IsCallOf (called (code_of p.body)) s → EdgeFits program (width_of program p) s → P s) → AllByRecursion (λ way. P way.act) (own_graph p).arcs
       edges P formed proc p is tells =
           each-here (λ way. P way.act) (own_graph p).arcs

@@ -8,6 +8,7 @@ use Rattle.std.specs.Prelude.{Some, slice_get}
 use Rattle.syntax_tree.specs.declared.program.Proc.{Proc}
 use Rattle.syntax_tree.specs.declared.program.Program.{Program}
 use Rattle.transition_formula.specs.Transition.{Transition}
+use Rattle.vocabularies.specs.Procs.{IsProcOf}
 use Rattle.leaf_cases.specs.Conditions.{IsKnown}
 use Rattle.leaf_cases.specs.Summaries.{SummaryIsMet}
 use Rattle.proc_summary.specs.declared.stop.Flow.{Flow}
@@ -41,7 +42,7 @@ module _ (program : Program) (found : Found) (fits : FitsFound program found) (a
   blocks-met met proc block at =
       met.summaries proc block.formula (block-known program program.procs found.known found.notes fits.known.each fits.notes known-there proc block at)
 
-  pub blocks-fit : (proc : ℕ) (p : Proc) (block : ProcBlock) → slice_get program.procs proc ≡ Some p → slice_get (blocks_by program program.procs found.known found.notes) proc ≡ Some block → IsKnown program p block.formula
+  pub blocks-fit : (proc : ℕ) (p : Proc) (block : ProcBlock) → IsProcOf program proc p → slice_get (blocks_by program program.procs found.known found.notes) proc ≡ Some block → IsKnown program p block.formula
   blocks-fit proc p block is at =
       fits.known.fit proc p block.formula is (block-known program program.procs found.known found.notes fits.known.each fits.notes known-there proc block at)
 

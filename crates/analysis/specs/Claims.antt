@@ -6,6 +6,7 @@ use Rattle.syntax_tree.specs.declared.program.Proc.{Proc}
 use Rattle.syntax_tree.specs.declared.program.Program.{Program}
 use Rattle.execution.specs.Execution.{Fails}
 use Rattle.transition_formula.specs.Transition.{Transition}
+use Rattle.vocabularies.specs.Procs.{IsProcOf}
 use Rattle.flow_graph.specs.declared.grouping.Group.{Group}
 use Rattle.flow_graph.specs.FlowGraph.{CheckPlace}
 use Rattle.flow_graph.specs.Groups.{AreGroupsAfter}
@@ -37,7 +38,7 @@ use Rattle.analysis.specs.Plan.{ArePlannedOf}
 -- the callees of each of these procedures are known
 abbrev pub KnowAllCallees : Program → List ℕ → List (Option Transition) → Type 0
 KnowAllCallees program procs known =
-    (proc : ℕ) (p : Proc) → Contains procs proc → slice_get program.procs proc ≡ Some p
+    (proc : ℕ) (p : Proc) → Contains procs proc → IsProcOf program proc p
     → KnowsCallees p known
 
 -- what the procedures of a group call is known, or of the group where that is recursive
@@ -65,12 +66,12 @@ pub record IsReadyGroup (program : Program) (planned : Planned)
 
 -- it fits the procedure of this number
 abbrev pub FitsAt : Program → ℕ → Flow → Type 0
-FitsAt program proc flow = (p : Proc) → slice_get program.procs proc ≡ Some p
+FitsAt program proc flow = (p : Proc) → IsProcOf program proc p
     → FitsFlow program p flow
 
 -- the formula may be known of the procedure of this number
 abbrev pub IsKnownAt : Program → ℕ → Transition → Type 0
-IsKnownAt program proc f = (p : Proc) → slice_get program.procs proc ≡ Some p → IsKnown program p f
+IsKnownAt program proc f = (p : Proc) → IsProcOf program proc p → IsKnown program p f
 
 -- each element has to do with the procedure at its place
 abbrev pub EachOf : {X : Type 0} → (ℕ → X → Type 0) → List ℕ → List X → Type 0
@@ -162,7 +163,7 @@ AreTheirPlaces program places = map (λ (at : TextPlace). at.at) places ≡ prog
 -- an assertion of a graph stands there
 pub record IsCheckOf (program : Program) (c : CheckAt) : Type 0 where
   pub p : Proc
-  pub is : slice_get program.procs c.proc ≡ Some p
+  pub is : IsProcOf program c.proc p
   pub at : CheckPlace
   pub at_is : slice_get (own_graph p).checks c.check ≡ Some at
   pub number : at.number ≡ c.number

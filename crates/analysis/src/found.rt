@@ -1,7 +1,7 @@
 ghost use Rattle.std.specs.Prelude.{◌≡◌, ◌<◌, ◌++◌, ◌∷◌, All, ℕ, List, Option, length, slice_set, IfOk};
 ghost use Rattle.std.specs.Vec.Iter.{into_iter_items};
 ghost use Rattle.syntax_tree.specs.WellFormed.{IsWellFormed};
-ghost use Rattle.posing.specs.Follows.{Follows};
+ghost use Rattle.posing.specs.Follows.{Asks};
 ghost use Rattle.analysis.specs.Claims.{FitsFound, FoundIsMet, HasAll, HasFound, IsReadyGroup};
 ghost use Rattle.analysis.specs.Found.{findings_by_plan, with_notes_at, nothing_found, put_at, with_group, with_part};
 ghost use Rattle.analysis.specs.Plan.{IsPlan};
@@ -129,8 +129,7 @@ pub(crate) fn findings_by_plan<O: Oracle>(
 ) -> Result<Found, WorkError>
     requires formed { IsWellFormed program.now }
     requires plan { IsPlan program.now plan.now }
-    ensures follows { Follows O.asking oracle.old oracle.new log.old log.new result
-        (findings_by_plan program.now plan.now) }
+    ensures follows { Asks O.asking oracle log result (findings_by_plan program.now plan.now) }
     ensures fits { IfOk result (FitsFound program.now) }
     ensures all { IfOk result (HasAll program.now) }
     ensures met { IfOk result (FoundIsMet program.now) }
@@ -154,8 +153,7 @@ fn with_group<O: Oracle>(
     requires formed { IsWellFormed program.now }
     requires found { FitsFound program.now found }
     requires ready { IsReadyGroup program.now planned.now found.known }
-    ensures follows { Follows O.asking oracle.old oracle.new log.old log.new result
-        (with_group program.now found planned.now) }
+    ensures follows { Asks O.asking oracle log result (with_group program.now found planned.now) }
     ensures fits { IfOk result (FitsFound program.now) }
     ensures has { (come : List ℕ) → HasFound come found
         → IfOk result (HasFound (come ++ planned.now.procs)) }

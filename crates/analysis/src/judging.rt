@@ -5,8 +5,9 @@ ghost use Rattle.syntax_tree.specs.declared.program.Proc.{Proc as Procedure};
 ghost use Rattle.execution.specs.Execution.{Fails};
 ghost use Rattle.flow_graph.specs.FlowGraph.{CheckPlace, graph_of};
 ghost use Rattle.flow_graph.specs.Plain.{plain};
-ghost use Rattle.posing.specs.Follows.{Follows};
+ghost use Rattle.posing.specs.Follows.{Asks};
 ghost use Rattle.vocabularies.specs.Ends.{entry_width, named_columns_from};
+ghost use Rattle.vocabularies.specs.Procs.{IsProcOf};
 ghost use Rattle.proc_summary.specs.declared.stop.NodeFormula.{NodeFormula};
 ghost use Rattle.proc_summary.specs.Claims.{FitsFlow, FlowHolds};
 ghost use Rattle.proc_summary.specs.Subject.{own_graph};
@@ -46,7 +47,7 @@ pub(crate) fn judgements_on_all<O: Oracle>(
     requires formed { IsWellFormed program.now }
     requires entries { AreEntries program.now entries.now }
     requires flows { AreFlows program.now flows.now }
-    ensures follows { Follows O.asking oracle.old oracle.new log.old log.new result
+    ensures follows { Asks O.asking oracle log result
         (judgements_on_all program.now places.now entries.now flows.now) }
     ensures sound { EntriesHold program.now entries.now → FlowsHold program.now flows.now
         → IfOk result (AreJudged program.now) }
@@ -90,7 +91,7 @@ fn with_judged<O: Oracle>(
     requires entries { AreEntries program.now entries.now }
     requires flows { AreFlows program.now flows.now }
     requires number { 1 ≤ number }
-    ensures follows { Follows O.asking oracle.old oracle.new log.old log.new result
+    ensures follows { Asks O.asking oracle log result
         (with_judged program.now places.now entries.now flows.now made number) }
     ensures added { IfOk result (AddsJudged program.now entries.now flows.now made number) }
 {
@@ -119,7 +120,7 @@ fn judgement_of<O: Oracle>(
     requires entries { AreEntries program.now entries.now }
     requires flows { AreFlows program.now flows.now }
     requires number { 1 ≤ number }
-    ensures follows { Follows O.asking oracle.old oracle.new log.old log.new result
+    ensures follows { Asks O.asking oracle log result
         (judgement_of (place_in places.now number)
         (numbered_assertion program.now entries.now flows.now number)) }
     ensures sound { EntriesHold program.now entries.now → FlowsHold program.now flows.now
@@ -168,7 +169,7 @@ fn judgement_at<O: Oracle>(
     requires check { IsCheckOf program.now check }
     requires entries { AreEntries program.now entries.now }
     requires flows { AreFlows program.now flows.now }
-    ensures follows { Follows O.asking oracle.old oracle.new log.old log.new result
+    ensures follows { Asks O.asking oracle log result
         (judgement_of at (assertion_by program.now entries.now flows.now check)) }
     ensures sound { EntriesHold program.now entries.now → FlowsHold program.now flows.now
         → IfOk result (IsJudged program.now check.number) }
@@ -210,16 +211,16 @@ fn verdict_apart<O: Oracle>(
     requires procedure { proc < length program.now.procs }
     requires graph { plain graph.now ≡ graph_of program.now proc }
     requires assertion { check < length flow.now.checks }
-    requires flow { (p : Procedure) → slice_get program.now.procs proc ≡ Some p
+    requires flow { (p : Procedure) → IsProcOf program.now proc p
         → FitsFlow program.now p flow.now }
-    requires entry { (p : Procedure) → slice_get program.now.procs proc ≡ Some p
+    requires entry { (p : Procedure) → IsProcOf program.now proc p
         → IsEntryIf (entry_width program.now p) entry.now }
     ensures follows { (p : Procedure) (at : CheckPlace) (stop : NodeFormula)
-        → slice_get program.now.procs proc ≡ Some p → slice_get (own_graph p).checks check ≡ Some at
+        → IsProcOf program.now proc p → slice_get (own_graph p).checks check ≡ Some at
         → slice_get flow.now.checks check ≡ Some stop
-        → Follows O.asking oracle.old oracle.new log.old log.new result
+        → Asks O.asking oracle log result
         (apart (verdict_of (place_of program.now p) at.cond entry.now stop.formula)) }
-    ensures sound { (p : Procedure) (at : CheckPlace) → slice_get program.now.procs proc ≡ Some p
+    ensures sound { (p : Procedure) (at : CheckPlace) → IsProcOf program.now proc p
         → slice_get (own_graph p).checks check ≡ Some at → EntryHolds program.now proc entry.now
         → FlowHolds program.now proc flow.now
         → IfOk result (λ made. made.0 ≡ Proved → ¬ Fails program.now at.number) }
@@ -233,7 +234,7 @@ fn verdict_apart<O: Oracle>(
 
 fn named_columns(alloc: Global, program: &Program, proc: u32) -> Result<Items<Name>, AllocError>
     requires { proc < length program.now.procs }
-    ensures { (p : Procedure) → slice_get program.now.procs proc ≡ Some p
+    ensures { (p : Procedure) → IsProcOf program.now proc p
         → IfOk result (λ names. names ≡ global_names program.now ++ column_names p.columns) }
 {
     let columns = program.procs.as_slice()[proc as usize].columns.as_slice();
@@ -246,7 +247,7 @@ fn named_columns(alloc: Global, program: &Program, proc: u32) -> Result<Items<Na
 fn shown_columns(alloc: Global, program: &Program, proc: u32) -> Result<Items<u32>, AllocError>
     requires formed { IsWellFormed program.now }
     requires procedure { proc < length program.now.procs }
-    ensures { (p : Procedure) → slice_get program.now.procs proc ≡ Some p
+    ensures { (p : Procedure) → IsProcOf program.now proc p
         → IfOk result (λ shown. shown ≡ shown_columns_of program.now p) }
 {
     let globals = program.globals.len() as u32;

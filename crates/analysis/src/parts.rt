@@ -1,9 +1,10 @@
-ghost use Rattle.std.specs.Prelude.{◌≡◌, ◌<◌, ◌≤◌, ◌++◌, All, Some, [], false, true, length, map, slice_get, IfOk};
+ghost use Rattle.std.specs.Prelude.{◌≡◌, ◌<◌, ◌≤◌, ◌++◌, All, Some, [], false, true, length, map, IfOk};
 ghost use Rattle.std.specs.List.{Contains, slice_index_or};
 ghost use Rattle.syntax_tree.specs.WellFormed.{IsWellFormed};
 ghost use Rattle.syntax_tree.specs.declared.program.Proc.{Proc as Procedure};
-ghost use Rattle.posing.specs.Follows.{Follows};
+ghost use Rattle.posing.specs.Follows.{Asks};
 ghost use Rattle.posing.specs.Posing.{each};
+ghost use Rattle.vocabularies.specs.Procs.{IsProcOf};
 ghost use Rattle.leaf_cases.specs.Conditions.{AreKnown};
 ghost use Rattle.leaf_cases.specs.Summaries.{AreMet};
 ghost use Rattle.proc_summary.specs.Claims.{KnowsCallees};
@@ -57,8 +58,7 @@ pub fn part_of<O: Oracle>(
     requires formed { IsWellFormed program.now }
     requires known { AreKnown program.now known.now }
     requires ready { IsReadyGroup program.now planned.now known.now }
-    ensures follows { Follows O.asking oracle.old oracle.new log.old log.new result
-        (part_of program.now planned.now known.now) }
+    ensures follows { Asks O.asking oracle log result (part_of program.now planned.now known.now) }
     ensures fits { IfOk result
         (λ part. FitsGroup program.now planned.now.procs part.formulas part.flows) }
     ensures met { AreMet program.now known.now
@@ -101,7 +101,7 @@ pub fn summaries_apart<O: Oracle>(
     requires formed { IsWellFormed program.now }
     requires known { AreKnown program.now known.now }
     requires ready { IsReadyGroup program.now planned.now known.now }
-    ensures follows { Follows O.asking oracle.old oracle.new log.old log.new result
+    ensures follows { Asks O.asking oracle log result
         (apart (summaries_by planned.now.kind program.now planned.now.procs known.now)) }
     ensures fits { IfOk result
         (λ made. FitsGroup program.now planned.now.procs made.0.formulas made.0.flows) }
@@ -127,7 +127,7 @@ fn summaries_by<O: Oracle>(
     requires formed { IsWellFormed program.now }
     requires known { AreKnown program.now known.now }
     requires ready { IsReadyGroup program.now planned.now known.now }
-    ensures follows { Follows O.asking oracle.old oracle.new log.old log.new result
+    ensures follows { Asks O.asking oracle log result
         (summaries_by planned.now.kind program.now planned.now.procs known.now) }
     ensures fits { IfOk result
         (λ summed. FitsGroup program.now planned.now.procs summed.formulas summed.flows) }
@@ -157,8 +157,7 @@ fn plain_part<O: Oracle>(
     requires there { All (λ proc. proc < length program.now.procs) procs.now }
     requires known { AreKnown program.now known.now }
     requires callees { KnowAllCallees program.now procs.now known.now }
-    ensures follows { Follows O.asking oracle.old oracle.new log.old log.new result
-        (plain_part program.now procs.now known.now) }
+    ensures follows { Asks O.asking oracle log result (plain_part program.now procs.now known.now) }
     ensures fits { IfOk result
         (λ summed. FitsGroup program.now procs.now summed.formulas summed.flows) }
     ensures met { AreMet program.now known.now
@@ -188,11 +187,10 @@ fn with_plain<O: Oracle>(
     requires formed { IsWellFormed program.now }
     requires procedure { proc < length program.now.procs }
     requires known { AreKnown program.now known.now }
-    requires callees { (p : Procedure) → slice_get program.now.procs proc ≡ Some p
+    requires callees { (p : Procedure) → IsProcOf program.now proc p
         → KnowsCallees p known.now }
-    ensures follows { (p : Procedure) → slice_get program.now.procs proc ≡ Some p
-        → Follows O.asking oracle.old oracle.new log.old log.new result
-        (with_plain program.now known.now made p) }
+    ensures follows { (p : Procedure) → IsProcOf program.now proc p
+        → Asks O.asking oracle log result (with_plain program.now known.now made p) }
     ensures flow { IfOk result (λ next. AddsFlow program.now known.now proc made.flows next.flows) }
     ensures summary { IfOk result
         (λ next. AddsSummary program.now known.now proc made.formulas next.formulas) }
@@ -225,7 +223,7 @@ fn recursive_part<O: Oracle>(
     requires known { AreKnown program.now known.now }
     requires callees { KnowsOthers program.now procs.now known.now }
     requires linear { TellsLinear program.now procs.now linear }
-    ensures follows { Follows O.asking oracle.old oracle.new log.old log.new result
+    ensures follows { Asks O.asking oracle log result
         (recursive_part program.now procs.now known.now
         (group_closure linear program.now procs.now known.now)) }
     ensures fits { IfOk result
@@ -251,7 +249,7 @@ fn flows_by<O: Oracle>(
     requires there { All (λ proc. proc < length program.now.procs) procs.now }
     requires known { AreKnown program.now known.now }
     requires callees { KnowAllCallees program.now procs.now known.now }
-    ensures follows { Follows O.asking oracle.old oracle.new log.old log.new result
+    ensures follows { Asks O.asking oracle log result
         (each (with_flow program.now known.now) [] (members_of program.now procs.now)) }
     ensures fits { IfOk result (FitFlows program.now procs.now) }
     ensures holds { AreMet program.now known.now → IfOk result (AreFlowsOf program.now procs.now) }
@@ -276,11 +274,10 @@ fn with_flow<O: Oracle>(
     requires formed { IsWellFormed program.now }
     requires procedure { proc < length program.now.procs }
     requires known { AreKnown program.now known.now }
-    requires callees { (p : Procedure) → slice_get program.now.procs proc ≡ Some p
+    requires callees { (p : Procedure) → IsProcOf program.now proc p
         → KnowsCallees p known.now }
-    ensures follows { (p : Procedure) → slice_get program.now.procs proc ≡ Some p
-        → Follows O.asking oracle.old oracle.new log.old log.new result
-        (with_flow program.now known.now made p) }
+    ensures follows { (p : Procedure) → IsProcOf program.now proc p
+        → Asks O.asking oracle log result (with_flow program.now known.now made p) }
     ensures added { IfOk result (AddsFlow program.now known.now proc made) }
 {
     let own = flow(alloc, program, proc, known, oracle, log)?;

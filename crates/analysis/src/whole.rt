@@ -1,7 +1,7 @@
 ghost use Rattle.std.specs.Prelude.{◌≡◌, List, IfOk};
 ghost use Rattle.std.specs.List.{filter_map};
 ghost use Rattle.syntax_tree.specs.WellFormed.{IsWellFormed};
-ghost use Rattle.posing.specs.Follows.{Follows};
+ghost use Rattle.posing.specs.Follows.{Asks};
 ghost use Rattle.context.specs.Claims.{AreEntries, AreFlows, EntriesHold, FlowsHold};
 ghost use Rattle.context.specs.Entries.{entries_from};
 ghost use Rattle.report.specs.Claims.{ClaimsAreMet, PointsMeetRows, ReportCovers};
@@ -40,8 +40,7 @@ pub fn analyse<O: Oracle>(
 ) -> Result<Report, WorkError>
     requires formed { IsWellFormed program.now }
     ensures follows { (plan : List PlannedGroup) → IsPlan program.now plan
-        → Follows O.asking oracle.old oracle.new log.old log.new result
-        (report_by_plan program.now places.now plan) }
+        → Asks O.asking oracle log result (report_by_plan program.now places.now plan) }
     ensures planned { IfOk result (λ report. (plan : List PlannedGroup) × IsPlan program.now plan) }
     ensures kept { log.new.notes ≡ log.old.notes }
     ensures met { IfOk result (ClaimsAreMet program.now) }
@@ -67,7 +66,7 @@ pub fn report_by_findings<O: Oracle>(
     requires formed { IsWellFormed program.now }
     requires found { FitsFound program.now found }
     requires all { HasAll program.now found }
-    ensures follows { Follows O.asking oracle.old oracle.new log.old log.new result
+    ensures follows { Asks O.asking oracle log result
         (report_by_findings program.now places.now found) }
     ensures met { FoundIsMet program.now found → IfOk result (ClaimsAreMet program.now) }
     ensures covers { AreTheirPlaces program.now places.now
@@ -108,8 +107,7 @@ fn entries_apart<O: Oracle>(
 ) -> Result<(Items<Option<Formula>>, Items<Note>), WorkError>
     requires formed { IsWellFormed program.now }
     requires flows { AreFlows program.now flows.now }
-    ensures follows { Follows O.asking oracle.old oracle.new log.old log.new result
-        (apart (entries_from program.now flows.now)) }
+    ensures follows { Asks O.asking oracle log result (apart (entries_from program.now flows.now)) }
     ensures fits { IfOk result (λ made. AreEntries program.now made.0) }
     ensures holds { FlowsHold program.now flows.now
         → IfOk result (λ made. EntriesHold program.now made.0) }

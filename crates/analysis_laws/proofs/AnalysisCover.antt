@@ -5,7 +5,7 @@
 use Rattle.std.proofs.Common.{◌≡◌, List, [], ◌∷◌, length, map, Option}
 use Rattle.posing.specs.declared.note.Note.{Note}
 use Rattle.posing.specs.Posing.{Done, each, AlwaysPassing, IsPassing}
-use Rattle.posing.proofs.Under.{passing-always, under-bind, under-each, under-weaker}
+use Rattle.posing.proofs.UnderAnswers.{passing-always, under-bind, under-each, under-weaker}
 use Rattle.syntax_tree.specs.declared.program.Program.{Program}
 use Rattle.syntax_tree.specs.WellFormed.{IsWellFormed}
 use Rattle.transition_formula.specs.Transition.{Transition}

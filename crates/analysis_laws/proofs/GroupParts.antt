@@ -15,11 +15,12 @@ use Rattle.farkas_check.specs.declared.answer.Answer.{Answer}
 use Rattle.farkas_check.specs.declared.question.Question.{Question}
 use Rattle.posing.specs.declared.note.Note.{Note}
 use Rattle.posing.specs.Posing.{Posing, Done, Noted, Asked, each, ◌>>=◌, AlwaysUnder, AlwaysPassing, IsPassing}
-use Rattle.posing.proofs.Under.{passing-always, under-bind, under-both, under-weaker}
+use Rattle.posing.proofs.UnderAnswers.{passing-always, under-bind, under-both, under-weaker}
 use Rattle.syntax_tree.specs.declared.program.Proc.{Proc}
 use Rattle.syntax_tree.specs.declared.program.Program.{Program}
 use Rattle.syntax_tree.specs.WellFormed.{IsWellFormed}
 use Rattle.transition_formula.specs.Transition.{Transition}
+use Rattle.vocabularies.specs.Procs.{IsProcOf}
 use Rattle.leaf_cases.specs.Conditions.{AreKnown}
 use Rattle.leaf_cases.specs.Summaries.{AreMet}
 use Rattle.proc_summary.specs.declared.stop.Flow.{Flow}
@@ -151,19 +152,19 @@ module _ (program : Program) (formed : IsWellFormed program) where
 
     module _ (procs : List ℕ) (there : AreThere program procs) (knows : KnowAllCallees program procs known) where
       -- the procedure at a place of the group
-      at-place : (place proc : ℕ) → slice_get procs place ≡ Some proc → (p : Proc) × (slice_get program.procs proc ≡ Some p)
+      at-place : (place proc : ℕ) → slice_get procs place ≡ Some proc → (p : Proc) × (IsProcOf program proc p)
       at-place place proc at = some_at program.procs proc (each-get (λ proc. proc < length program.procs) procs place proc there at)
 
       of-group : (place proc : ℕ) → slice_get procs place ≡ Some proc → Contains procs proc
       of-group place proc at = (place, slice_get_within procs place proc at, get_or_from_slice_get procs place proc proc at)
 
-      summary-at : (formulas : List Transition) → AllZip IsSummaryOf (members_of program procs) formulas → (place proc : ℕ) (p : Proc) (f : Transition) → slice_get procs place ≡ Some proc → slice_get program.procs proc ≡ Some p
+      summary-at : (formulas : List Transition) → AllZip IsSummaryOf (members_of program procs) formulas → (place proc : ℕ) (p : Proc) (f : Transition) → slice_get procs place ≡ Some proc → IsProcOf program proc p
           → slice_get formulas place ≡ Some f → IsTrueSummary program proc p known f
       summary-at formulas h place proc p f at is e =
           let found = zipped-at IsSummaryOf (members_of program procs) formulas h place p (member-at program procs place proc p there at is) in
           subst (IsTrueSummary program proc p known) (some-one found.1 e) (found.2 (proc, is))
 
-      flow-at : (flows : List Flow) → AllZip IsTrueOf (members_of program procs) flows → (place proc : ℕ) (p : Proc) (flow : Flow) → slice_get procs place ≡ Some proc → slice_get program.procs proc ≡ Some p
+      flow-at : (flows : List Flow) → AllZip IsTrueOf (members_of program procs) flows → (place proc : ℕ) (p : Proc) (flow : Flow) → slice_get procs place ≡ Some proc → IsProcOf program proc p
           → slice_get flows place ≡ Some flow → IsTrueFlow program proc p known flow
       flow-at flows h place proc p flow at is e =
           let found = zipped-at IsTrueOf (members_of program procs) flows h place p (member-at program procs place proc p there at is) in

@@ -13,7 +13,7 @@ use Rattle.farkas_check.specs.declared.answer.Answer.TheVariants as answer
 use Rattle.farkas_check.specs.declared.question.Question.TheVariants.{Infeasible}
 use Rattle.farkas_check.specs.Tested.{is_passed}
 use Rattle.posing.specs.Posing.{Posing, Done, Noted, each, ◌>>=◌, AlwaysPassing, IsPassing}
-use Rattle.posing.proofs.Under.{under-bind, under-each}
+use Rattle.posing.proofs.UnderAnswers.{under-bind, under-each}
 use Rattle.syntax_tree.specs.declared.program.Program.{Program}
 use Rattle.syntax_tree.specs.Term.{Term}
 use Rattle.transition_formula.specs.Rounds.{in_order}

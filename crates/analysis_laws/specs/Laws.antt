@@ -10,6 +10,7 @@ use Rattle.flow_graph.specs.FlowGraph.{CheckPlace}
 use Rattle.leaf_cases.specs.Conditions.{AreKnown}
 use Rattle.leaf_cases.specs.Summaries.{AreMet, SummaryIsMet}
 use Rattle.posing.specs.Posing.{AlwaysPassing}
+use Rattle.vocabularies.specs.Procs.{IsProcOf}
 use Rattle.proc_summary.specs.declared.stop.Flow.{Flow}
 use Rattle.proc_summary.specs.Subject.{own_graph}
 use Rattle.context.specs.Claims.{AreEntries, AreFlows}
@@ -31,7 +32,7 @@ use Rattle.analysis.specs.Plan.{IsPlan}
 pub record StandsInGraph (program : Program) (number : ℕ) : Type 0 where
   pub proc : ℕ
   pub p : Proc
-  pub is : slice_get program.procs proc ≡ Some p
+  pub is : IsProcOf program proc p
   pub place : ℕ
   pub at : CheckPlace
   pub at_is : slice_get (own_graph p).checks place ≡ Some at

@@ -4,4 +4,4 @@
 
 mod laws;
 
-pub use laws::{law_of_parts, law_of_reports, law_of_unreached};
+pub use laws::{parts_are_met, reports_cover_programs, unreached_checks_never_fail};

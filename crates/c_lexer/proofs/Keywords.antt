@@ -7,7 +7,7 @@ use Rattle.c_lexer.specs.declared.keyword.Keyword.TheVariants as keyword
 use Rattle.c_lexer.specs.declared.keyword.TheConstants.{KEYWORDS}
 use Rattle.c_lexer.specs.Spellings.{keyword_bytes}
 use Rattle.c_lexer.specs.Kinds.{is_word_shape}
-use Rattle.c_lexer.proofs.Found.{In, In-slice_get, found_passes, missed_fails}
+use Rattle.c_lexer.proofs.Finds.{In, In-slice_get, found_passes, missed_fails}
 use Rattle.c_lexer.proofs.Slices.{bytes_eq-true, true-bytes_eq}
 
 -- where each keyword stands in the table

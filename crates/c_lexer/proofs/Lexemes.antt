@@ -15,7 +15,7 @@ use Rattle.c_lexer.specs.Spellings.{mark_bytes}
 use Rattle.c_lexer.specs.Kinds.{HasShape, is_word_shape, is_number_shape}
 use Rattle.c_lexer.specs.Pieces.{begins_comment}
 use Rattle.c_lexer.specs.Found.{IsLexeme}
-use Rattle.c_lexer.proofs.Found.{found_passes, missed_fails, longer_fails}
+use Rattle.c_lexer.proofs.Finds.{found_passes, missed_fails, longer_fails}
 use Rattle.c_lexer.proofs.Marks.{in_marks, marks_descend, mark_bytes-some, mark_bytes-no_word, mark_bytes-no_digit}
 use Rattle.c_lexer.proofs.Shapes.{IsLongest-run, run_passes, word_shape, number_shape, word_start_passes, digit_passes}
 

@@ -13,5 +13,5 @@ pub mod Shapes
 pub mod Keywords
 pub mod Marks
 -- Lists and slices.
-pub mod Found
+pub mod Finds
 pub mod Slices

@@ -8,7 +8,7 @@ use Rattle.std.specs.Prelude.{◌==◌}
 use Rattle.c_lexer.specs.Bytes.{is_word_start, is_blank}
 use Rattle.c_lexer.specs.declared.mark.TheConstants.{MARKS}
 use Rattle.c_lexer.specs.Spellings.{mark_bytes}
-use Rattle.c_lexer.proofs.Found.{In, In-slice_get, descends}
+use Rattle.c_lexer.proofs.Finds.{In, In-slice_get, descends}
 
 record IsPunctuation (bytes : List ℕ) : Type 0 where
   pub some : 0 < length bytes

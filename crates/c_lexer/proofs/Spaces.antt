@@ -11,7 +11,7 @@ use Rattle.c_lexer.specs.Found.{Tells}
 use Rattle.c_lexer.specs.declared.piece.FoundPiece.{FoundPiece}
 use Rattle.c_lexer.specs.declared.piece.FoundPiece.TheVariants.{Space}
 use Rattle.std.proofs.Math.Seq.{drop-append_seam}
-use Rattle.c_lexer.proofs.Found.{and_parts}
+use Rattle.c_lexer.proofs.Finds.{and_parts}
 use Rattle.c_lexer.proofs.Lexemes.{true_starts_with}
 use Rattle.c_lexer.proofs.Shapes.{run_passes, run_stops}
 

@@ -15,7 +15,7 @@ use Rattle.c_lexer.specs.Bytes.{is_blank, is_newline, is_word_start, is_number_b
 use Rattle.c_lexer.specs.Spellings.{mark_bytes}
 use Rattle.c_lexer.specs.Kinds.{HasShape, Spells, is_word_shape, is_number_shape, is_decimal, decimal_value, hexadecimal_digits, hexadecimal_value, if_small, small_number}
 use Rattle.c_lexer.specs.Pieces.{Piece, Blank, BlockComment, LineComment, SkippedLine, Lexeme, IsLongest, NeverEnds, EndsLine, no_newline, Stands, begins_comment}
-use Rattle.c_lexer.proofs.Found.{and_parts}
+use Rattle.c_lexer.proofs.Finds.{and_parts}
 use Rattle.c_lexer.proofs.Keywords.{keyword_bytes-same, keyword_shape}
 use Rattle.c_lexer.proofs.Marks.{mark_bytes-some, mark_bytes-no_word, mark_bytes-no_digit, mark_bytes-no_blank, mark_bytes-no_hash, mark_bytes-same}
 use Rattle.c_lexer.proofs.Shapes.{digit_passes, digit_starts_no_word, passes_after}

@@ -16,8 +16,8 @@ use Rattle.linear_terms.proofs.Canonical.{IsCanonical-substituted}
 use Rattle.transition_formula.specs.Composition.{Operation, union_of, row_of, rows_by, sequence_of_cases, sequence_of, after_case}
 use Rattle.transition_formula.specs.Meaning.{Holds, HoldsSome, numbers, Covers}
 use Rattle.transition_formula.specs.Transition.{Transition, IsTransition, IsFitted, IsSolvable, AreSolvable, AreFew, fits}
-use Rattle.transition_formula.proofs.Covered.{both, lost, each_from_test, test_from_each}
-use Rattle.transition_formula.proofs.Fitted.{fits-solvable}
+use Rattle.transition_formula.proofs.ColumnTests.{both, lost, each_from_test, test_from_each}
+use Rattle.transition_formula.proofs.FittedFormulas.{fits-solvable}
 use Rattle.transition_formula.proofs.Few.{all_few}
 use Rattle.transition_formula.proofs.Fitting.{below-true, fitting, joined-fits, sequence_of-fits}
 use Rattle.posing.specs.Posing.{Done, Always}

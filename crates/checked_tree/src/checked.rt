@@ -1,5 +1,5 @@
 ghost use Rattle.std.specs.Prelude.{◌≡◌, ◌≤◌, length, IfOk};
-ghost use Rattle.posing.specs.Follows.{Follows};
+ghost use Rattle.posing.specs.Follows.{Asks};
 ghost use Rattle.polyhedra.specs.Laws.{HaveCanonicalRows};
 ghost use Rattle.phases.specs.Repetition.{repetition};
 ghost use Rattle.transition_formula.specs.Transition.{AreSolvable};
@@ -102,7 +102,7 @@ impl Checked {
         requires end { IsEnd to.now.value }
         requires solvable { AreSolvable given.now.cases }
         requires canonical { HaveCanonicalRows given.now.cases }
-        ensures follows { Follows O.asking oracle.old oracle.new log.old log.new
+        ensures follows { Asks O.asking oracle log
             (result_map (λ tree. formula_of (tree_of tree)) result)
             (leaf_formula given.now from.now.value to.now.value) }
         ensures is { IfOk result
@@ -157,7 +157,7 @@ impl Checked {
         log: &mut Log,
     ) -> Result<Checked, WorkError>
         requires { (own_of (tree_of first.now)).to ≡ (own_of (tree_of second.now)).from }
-        ensures follows { Follows O.asking oracle.old oracle.new log.old log.new
+        ensures follows { Asks O.asking oracle log
             (result_map (λ tree. formula_of (tree_of tree)) result)
             (sequence_formula (formula_of (tree_of first.now)) (formula_of (tree_of second.now))
             (own_of (tree_of first.now)).from (own_of (tree_of second.now)).to) }
@@ -181,7 +181,7 @@ impl Checked {
         log: &mut Log,
     ) -> Result<Formula, WorkError>
         requires { (own_of (tree_of first.now)).to ≡ (own_of (tree_of second.now)).from }
-        ensures follows { Follows O.asking oracle.old oracle.new log.old log.new result
+        ensures follows { Asks O.asking oracle log result
             (sequence_formula (formula_of (tree_of first.now)) (formula_of (tree_of second.now))
             (own_of (tree_of first.now)).from (own_of (tree_of second.now)).to) }
         ensures canonical { IfOk result (λ f. HaveCanonicalRows f.cases) }
@@ -235,7 +235,7 @@ impl Checked {
     ) -> Result<Checked, WorkError>
         requires starts { (own_of (tree_of left.now)).from ≡ (own_of (tree_of right.now)).from }
         requires ends { (own_of (tree_of left.now)).to ≡ (own_of (tree_of right.now)).to }
-        ensures follows { Follows O.asking oracle.old oracle.new log.old log.new
+        ensures follows { Asks O.asking oracle log
             (result_map (λ tree. formula_of (tree_of tree)) result)
             (join_formula (formula_of (tree_of left.now)) (formula_of (tree_of right.now))
             (own_of (tree_of left.now)).from (own_of (tree_of left.now)).to) }
@@ -260,7 +260,7 @@ impl Checked {
     ) -> Result<Formula, WorkError>
         requires starts { (own_of (tree_of left.now)).from ≡ (own_of (tree_of right.now)).from }
         requires ends { (own_of (tree_of left.now)).to ≡ (own_of (tree_of right.now)).to }
-        ensures follows { Follows O.asking oracle.old oracle.new log.old log.new result
+        ensures follows { Asks O.asking oracle log result
             (join_formula (formula_of (tree_of left.now)) (formula_of (tree_of right.now))
             (own_of (tree_of left.now)).from (own_of (tree_of left.now)).to) }
         ensures canonical { IfOk result (λ f. HaveCanonicalRows f.cases) }
@@ -312,7 +312,7 @@ impl Checked {
         log: &mut Log,
     ) -> Result<Checked, WorkError>
         requires { (own_of (tree_of turn.now)).to ≡ (own_of (tree_of turn.now)).from }
-        ensures follows { Follows O.asking oracle.old oracle.new log.old log.new
+        ensures follows { Asks O.asking oracle log
             (result_map (λ tree. formula_of (tree_of tree)) result)
             (repetition (formula_of (tree_of turn.now)) (own_of (tree_of turn.now)).from) }
         ensures is { IfOk result
@@ -333,7 +333,7 @@ impl Checked {
         log: &mut Log,
     ) -> Result<Formula, WorkError>
         requires { (own_of (tree_of turn.now)).to ≡ (own_of (tree_of turn.now)).from }
-        ensures follows { Follows O.asking oracle.old oracle.new log.old log.new result
+        ensures follows { Asks O.asking oracle log result
             (repetition (formula_of (tree_of turn.now)) (own_of (tree_of turn.now)).from) }
         ensures canonical { IfOk result (λ f. HaveCanonicalRows f.cases) }
     {

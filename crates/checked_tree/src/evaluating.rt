@@ -1,6 +1,6 @@
 ghost use Rattle.std.specs.Prelude.{[], ◌≡◌, ◌<◌, ◌^◌, length, map, replicate, IfOk};
 ghost use Rattle.std.specs.Rc.{rc_value};
-ghost use Rattle.posing.specs.Follows.{Follows};
+ghost use Rattle.posing.specs.Follows.{Asks};
 ghost use Rattle.posing.specs.Posing.{each};
 ghost use Rattle.checked_tree.specs.Graph.{graph_of};
 ghost use Rattle.checked_tree.specs.Evaluation.{evaluated_cells};
@@ -45,7 +45,7 @@ pub fn evaluate_formulas<O: Oracle>(
     requires graph { IsEvaluated (graph_of links.now leaves.now nodes.now) source }
     requires few_links { length links.now < 2 ^ 32 }
     requires few_nodes { length nodes.now < 2 ^ 32 }
-    ensures follows { Follows O.asking oracle.old oracle.new log.old log.new result
+    ensures follows { Asks O.asking oracle log result
         (evaluated_cells (graph_of links.now leaves.now nodes.now) source) }
     ensures holds { IfOk result (CellsHold (graph_of links.now leaves.now nodes.now) source) }
     ensures fits { IfOk result (AreFittedCells (graph_of links.now leaves.now nodes.now) source) }
@@ -71,7 +71,7 @@ pub fn evaluate<O: Oracle>(
     requires graph { IsEvaluated (graph_of links.now leaves.now nodes.now) source }
     requires few_links { length links.now < 2 ^ 32 }
     requires few_nodes { length nodes.now < 2 ^ 32 }
-    ensures follows { Follows O.asking oracle.old oracle.new log.old log.new
+    ensures follows { Asks O.asking oracle log
         (result_map formulas_of result)
         (evaluated_cells (graph_of links.now leaves.now nodes.now) source) }
     ensures grown { IfOk result
@@ -117,7 +117,7 @@ fn growths_of<O: Oracle>(
 ) -> Result<Items<Growth>, WorkError>
     requires { AreUnderWay (graph_of links.now leaves.now (map rc_value nodes.now)) keys.now log.now
         (replicate (length keys.now) bare_growth) order.now }
-    ensures follows { Follows O.asking oracle.old oracle.new log.old log.new
+    ensures follows { Asks O.asking oracle log
         (result_map entries_in result)
         (entries_of (graph_of links.now leaves.now (map rc_value nodes.now)) keys.now order.now) }
     ensures grown { IfOk result
@@ -144,7 +144,7 @@ fn with_numbers<O: Oracle>(
 ) -> Result<Items<Growth>, WorkError>
     requires { AreUnderWay (graph_of links.now leaves.now (map rc_value nodes.now)) keys.now log.now
         growths order.now }
-    ensures follows { Follows O.asking oracle.old oracle.new log.old log.new
+    ensures follows { Asks O.asking oracle log
         (result_map entries_in result)
         (each (with_number (graph_of links.now leaves.now (map rc_value nodes.now)) keys.now)
         (entries_in growths) order.now) }

@@ -17,7 +17,7 @@ mod table;
 pub use checked::Checked;
 pub use evaluating::{evaluate, evaluate_formulas};
 pub use key::Key;
-pub use law::{law_of_evaluation, law_of_plans, law_of_trees};
+pub use law::{evaluation_covers_walks, plans_evaluate_graphs, trees_cover_runs};
 pub use operations::{either, leaf, sequence, settled_and_fitted};
 pub use plan::{EliminationPlan, elimination_plan};
 pub use step::{Node, TreeStep};

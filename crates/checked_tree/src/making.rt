@@ -1,6 +1,6 @@
 ghost use Rattle.std.specs.Prelude.{◌≡◌, ◌<◌, [], Some, length, map, IfOk};
 ghost use Rattle.std.specs.Rc.{rc_value};
-ghost use Rattle.posing.specs.Follows.{Follows};
+ghost use Rattle.posing.specs.Follows.{Asks};
 ghost use Rattle.polyhedra.specs.Laws.{HaveCanonicalRows};
 ghost use Rattle.checked_tree.specs.Graph.{graph_of, bare, bare_links, link_at, leaf_at, vocabulary_at};
 ghost use Rattle.checked_tree.specs.ByNumber.{link_formula, ends_by, formula_by, key_at, with_number};
@@ -83,7 +83,7 @@ fn of_link<O: Oracle>(
     requires due { IsDueLink (graph_of links.now leaves.now (map rc_value nodes.now)) number }
     requires canonical { HaveCanonicalRows
         (leaf_at (graph_of links.now leaves.now (map rc_value nodes.now)) number).cases }
-    ensures follows { Follows O.asking oracle.old oracle.new log.old log.new
+    ensures follows { Asks O.asking oracle log
         (result_map (λ tree. formula_of (tree_of tree)) result)
         (link_formula (graph_of links.now leaves.now (map rc_value nodes.now)) number) }
     ensures of_leaf { IfOk result
@@ -110,7 +110,7 @@ fn tree_by<O: Oracle>(
     log: &mut Log,
 ) -> Result<Checked, WorkError>
     requires { IsGrowable (graph_of links.now leaves.now (map rc_value nodes.now)) growths.now key }
-    ensures follows { Follows O.asking oracle.old oracle.new log.old log.new
+    ensures follows { Asks O.asking oracle log
         (result_map (λ tree. formula_of (tree_of tree)) result)
         (formula_by (graph_of links.now leaves.now (map rc_value nodes.now))
         (entries_in growths.now) key) }
@@ -153,7 +153,7 @@ pub(crate) fn with_number<O: Oracle>(
 ) -> Result<Items<Growth>, WorkError>
     requires { IsNextGrowth (graph_of links.now leaves.now (map rc_value nodes.now)) keys.now
         growths number }
-    ensures follows { Follows O.asking oracle.old oracle.new log.old log.new
+    ensures follows { Asks O.asking oracle log
         (result_map entries_in result)
         (with_number (graph_of links.now leaves.now (map rc_value nodes.now)) keys.now
         (entries_in growths) number) }

@@ -1,7 +1,7 @@
 ghost use Rattle.std.specs.Prelude.{◌≡◌, IfOk};
 ghost use Rattle.transition_formula.specs.Meaning.{Covers};
 ghost use Rattle.transition_formula.specs.Transition.{AreSolvable};
-ghost use Rattle.posing.specs.Follows.{Follows};
+ghost use Rattle.posing.specs.Follows.{Asks};
 ghost use Rattle.checked_tree.specs.Evaluation.{settled_and_fitted, leaf_formula, sequence_formula, join_formula};
 ghost use Rattle.checked_tree.specs.Law.{IsFrom, IsEnd, IsBetweenEnds};
 ghost use Rattle.checked_tree.specs.Operands.{AreInSequence, AreEither};
@@ -31,8 +31,7 @@ pub fn settled_and_fitted<O: Oracle>(
     requires start { IsEnd from.now }
     requires end { IsEnd to.now }
     requires solvable { AreSolvable f.now.cases }
-    ensures follows { Follows O.asking oracle.old oracle.new log.old log.new result
-        (settled_and_fitted f.now from.now to.now) }
+    ensures follows { Asks O.asking oracle log result (settled_and_fitted f.now from.now to.now) }
     ensures fits { IfOk result (IsBetweenEnds from.now to.now) }
     ensures covers { IfOk result (λ g. Covers g f.now) }
 {
@@ -55,8 +54,7 @@ pub fn leaf<O: Oracle>(
     requires start { IsEnd from.now }
     requires end { IsEnd to.now }
     requires solvable { AreSolvable f.now.cases }
-    ensures { Follows O.asking oracle.old oracle.new log.old log.new result
-        (leaf_formula f.now from.now to.now) }
+    ensures { Asks O.asking oracle log result (leaf_formula f.now from.now to.now) }
 {
     settled_and_fitted(alloc, f, from, to, oracle, log)
 }
@@ -75,7 +73,7 @@ pub fn sequence<O: Oracle>(
     log: &mut Log,
 ) -> Result<Formula, WorkError>
     requires { AreInSequence from.now to.now first.now second.now }
-    ensures { Follows O.asking oracle.old oracle.new log.old log.new result
+    ensures { Asks O.asking oracle log result
         (sequence_formula first.now second.now from.now to.now) }
 {
     let mut losses = Items::new(alloc);
@@ -97,8 +95,7 @@ pub fn either<O: Oracle>(
     log: &mut Log,
 ) -> Result<Formula, WorkError>
     requires { AreEither from.now to.now left.now right.now }
-    ensures { Follows O.asking oracle.old oracle.new log.old log.new result
-        (join_formula left.now right.now from.now to.now) }
+    ensures { Asks O.asking oracle log result (join_formula left.now right.now from.now to.now) }
 {
     let f = join(alloc, left, right)?;
     fit(alloc, &f, from, to, oracle, log)

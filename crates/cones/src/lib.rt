@@ -10,7 +10,10 @@ mod stop;
 mod tangents;
 mod vectors;
 
-pub use laws::{law_of_extremes, law_of_flats, law_of_hulls, law_of_splitting, law_of_steps};
+pub use laws::{
+    extremes_see_the_cone, facets_are_complete, flats_and_extremes_see_the_cone,
+    flats_and_rest_split, steps_make_what_is_defined,
+};
 pub use point::Point;
 pub use projecting::{Cleared, clearing, lowest, projection};
 pub use searching::{extremes, opposite};

@@ -11,6 +11,7 @@ use Rattle.syntax_tree.specs.declared.program.Program.{Program}
 use Rattle.syntax_tree.specs.Code.{Statement, Set, Any, Call, Guard, Check, If, Loop, Break, Continue, Return, Code, End, Then, code_of}
 use Rattle.syntax_tree.specs.Nodes.{code_nodes, statement_nodes}
 use Rattle.syntax_tree.specs.WellFormed.{cond_fits, statement_fits, code_fits, statement_checks, code_checks, procs_checks, width_of, IsProcFit, IsWellFormed}
+use Rattle.vocabularies.specs.Procs.{IsProcOf}
 use Rattle.flow_graph.specs.FlowGraph.{CheckPlace, checks_at, code_checks_at, flow_of}
 
 pub two : (a b : Bool) → IsTrue (a && b) → IsTrue a × IsTrue b
@@ -166,11 +167,11 @@ in-one k (r ∷ procs) (suc i) zero p q few is js a b =
     let h = in-some k procs i p is in absurd (omega (arith, e, h, few, a, b))
 in-one k (r ∷ procs) (suc i) (suc j) p q few is js a b = ap suc (in-one k procs i j p q (omega (arith, few)) is js a b)
 
-pub proc-fit : (program : Program) (i : ℕ) (p : Proc) → IsWellFormed program → slice_get program.procs i ≡ Some p → IsProcFit program p
+pub proc-fit : (program : Program) (i : ℕ) (p : Proc) → IsWellFormed program → IsProcOf program i p → IsProcFit program p
 proc-fit program i p formed is = each-get (IsProcFit program) program.procs i p (recursion_from_All (IsProcFit program) program.procs formed.each) is
 
 -- assertions with one number stand in one place
-pub one-place : (program : Program) → IsWellFormed program → (i j m n : ℕ) (p q : Proc) (a b : CheckPlace) → slice_get program.procs i ≡ Some p → slice_get program.procs j ≡ Some q → slice_get (flow_of (code_of p.body)).checks m ≡ Some a
+pub one-place : (program : Program) → IsWellFormed program → (i j m n : ℕ) (p q : Proc) (a b : CheckPlace) → IsProcOf program i p → IsProcOf program j q → slice_get (flow_of (code_of p.body)).checks m ≡ Some a
     → slice_get (flow_of (code_of q.body)).checks n ≡ Some b → a.number ≡ b.number → (i ≡ j) × (m ≡ n)
 one-place program formed i j m n p q a b is js ks ls e =
     let k : ℕ = b.number in

@@ -1,7 +1,7 @@
 -- The calls among the edges of a procedure's graph can be made links, and each has a stop in its
 -- flow.
-use Rattle.std.proofs.Common.{◌≡◌, ℕ, length, map, List, [], ◌∷◌, Option, Some, refl, sym, ap, subst, ◌∙◌, length-append, arith}
-use Rattle.std.specs.Prelude.{All, slice_get}
+use Rattle.std.proofs.Common.{◌≡◌, ℕ, length, map, List, [], ◌∷◌, Option, refl, sym, ap, subst, ◌∙◌, length-append, arith}
+use Rattle.std.specs.Prelude.{All}
 use Rattle.std.specs.List.{AllByRecursion}
 use Rattle.std.proofs.lemmas.List.{length-map}
 use Rattle.std.proofs.lemmas.List.Elements.{All-from_recursion}
@@ -10,6 +10,7 @@ use Rattle.syntax_tree.specs.declared.program.Proc.{Proc}
 use Rattle.syntax_tree.specs.declared.program.Program.{Program}
 use Rattle.syntax_tree.specs.Code.{Statement, Set, Any, Call, Guard, Check, If, Loop, Break, Continue, Return}
 use Rattle.syntax_tree.specs.WellFormed.{IsWellFormed, width_of}
+use Rattle.vocabularies.specs.Procs.{IsProcOf}
 use Rattle.flow_graph.specs.declared.parts.Edge.{Edge}
 use Rattle.flow_graph.specs.declared.parts.Graph.{Graph}
 use Rattle.flow_graph.specs.FlowGraph.{Arc, FlowGraph, body_of, flow_of, graph_of}
@@ -66,7 +67,7 @@ as-many-nodes (way ∷ arcs) =
     own node Continue = refl
     own node Return = refl
 
-module _ (program : Program) (number : ℕ) (p : Proc) (is : slice_get program.procs number ≡ Some p) (g : Graph) (same : plain g ≡ graph_of program number) where
+module _ (program : Program) (number : ℕ) (p : Proc) (is : IsProcOf program number p) (g : Graph) (same : plain g ≡ graph_of program number) where
   arcs-are : map arc_of g.edges ≡ (own_graph p).arcs
   arcs-are = ap (λ (f : FlowGraph). f.arcs) (same ∙ ap (λ (o : Option Proc). flow_of (body_of o)) is)
 

@@ -12,6 +12,7 @@ use Rattle.syntax_tree.specs.declared.program.Program.{Program}
 use Rattle.syntax_tree.specs.Term.{Term, term_of}
 use Rattle.syntax_tree.specs.Cases.{cases_of}
 use Rattle.syntax_tree.specs.WellFormed.{IsWellFormed, columns_below, cond_fits, operators_of, width_of}
+use Rattle.vocabularies.specs.Procs.{IsProcOf}
 use Rattle.flow_graph.specs.declared.parts.CheckNode.{CheckNode}
 use Rattle.flow_graph.specs.declared.parts.Graph.{Graph}
 use Rattle.flow_graph.specs.FlowGraph.{CheckPlace, FlowGraph, body_of, flow_of, graph_of}
@@ -31,7 +32,7 @@ condition columns cond h =
     let few = leb-true (operators_of cond) 200000 d.1 in
     record { below = d.0; operators = omega (arith, few) }
 
-module _ (program : Program) (proc : ℕ) (p : Proc) (is : slice_get program.procs proc ≡ Some p) (g : Graph) (same : plain g ≡ graph_of program proc) where
+module _ (program : Program) (proc : ℕ) (p : Proc) (is : IsProcOf program proc p) (g : Graph) (same : plain g ≡ graph_of program proc) where
   checks-are : map check_of g.checks ≡ (own_graph p).checks
   checks-are = ap (λ (f : FlowGraph). f.checks) (same ∙ ap (λ (o : Option Proc). flow_of (body_of o)) is)
 

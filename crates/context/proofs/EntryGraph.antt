@@ -16,6 +16,7 @@ use Rattle.syntax_tree.specs.declared.program.Program.{Program}
 use Rattle.syntax_tree.specs.WellFormed.{IsProcFit, IsWellFormed}
 use Rattle.vocabularies.specs.Ends.{entry_of, entry_width, start_of}
 use Rattle.vocabularies.proofs.Columns.{IsVocabulary-below, IsVocabulary-plain}
+use Rattle.vocabularies.specs.Procs.{IsProcOf}
 use Rattle.checked_tree.specs.Graph.{nothing, leaf_at, link_at, vocabulary_at}
 use Rattle.checked_tree.specs.Law.{IsEnd, IsEvaluated, IsFrom, IsLeaf}
 use Rattle.transition_formula.specs.Transition.{AreSolvable, Transition}
@@ -92,11 +93,11 @@ module _ (program : Program) where
           ap (λ l. slice_get l (suc k)) (first-other number q procs (λ same. omega (arith, same, less))) ∙ behind k (omega (arith, less)) (omega (arith, lt)) e
       go (inr (inr more)) k lt e behind = absurd (omega (arith, more, le))
 
-  module _ (m : Proc) (is_main : slice_get program.procs main ≡ Some m) where
+  module _ (m : Proc) (is_main : IsProcOf program main m) where
     first-nodes : nodes_of program ≡ start_of program ∷ own m ∷ others_from program 0 program.procs
     first-nodes = ap (λ o. start_of program ∷ (map own (option_to_list o) ++ others_from program 0 program.procs)) is_main
 
-    pub node-found : (proc : ℕ) (p : Proc) → slice_get program.procs proc ≡ Some p → slice_get (nodes_of program) (node_of main proc) ≡ Some (own p)
+    pub node-found : (proc : ℕ) (p : Proc) → IsProcOf program proc p → slice_get (nodes_of program) (node_of main proc) ≡ Some (own p)
     node-found proc p is = go (cases_order proc main)
       where
         go : (proc ≡ main) ⊎ ((proc < main) ⊎ (main < proc)) → slice_get (nodes_of program) (node_of main proc) ≡ Some (own p)
@@ -115,7 +116,7 @@ module _ (program : Program) where
             ∙ ap (λ b. if b then proc + 2 else proc + 1) (le-ltb proc main (omega (arith, more))) in
             (λ i. slice_get (first-nodes i) (node i)) ∙ later proc node more is
           where
-            later : (proc : ℕ) → node_of main proc ≡ proc + 1 → main < proc → slice_get program.procs proc ≡ Some p → slice_get (start_of program ∷ own m ∷ others_from program 0 program.procs) (proc + 1) ≡ Some (own p)
+            later : (proc : ℕ) → node_of main proc ≡ proc + 1 → main < proc → IsProcOf program proc p → slice_get (start_of program ∷ own m ∷ others_from program 0 program.procs) (proc + 1) ≡ Some (own p)
             later zero node more is = absurd (omega (arith, more))
             later (suc k) node more is =
                 let e : suc k + 1 ≡ suc (suc k) = omega arith in

@@ -40,6 +40,7 @@ use Rattle.transition_formula.specs.Transition.{Transition}
 use Rattle.transition_formula.proofs.Meanings.{identity-holds}
 use Rattle.leaf_cases.proofs.StepCases.{constant-value}
 use Rattle.vocabularies.specs.Ends.{entry_of, entry_width, start_of}
+use Rattle.vocabularies.specs.Procs.{IsProcOf}
 use Rattle.posing.specs.Posing.{Always, Done}
 use Rattle.posing.proofs.Paths.{always_any, always_bind}
 use Rattle.checked_tree.specs.Evaluation.{Made, cell_at, cell_of, cells_of, evaluated_cells, evaluation}
@@ -140,7 +141,7 @@ module _ (program : Program) (flows : List Flow) (formed : IsWellFormed program)
       let k : ℕ = edge.1 in
       let walk : WalksTo program under.proc under.globals under.args arc.from final = edge.5 in
       let p : Proc = walk.callee in
-      let is_p : slice_get program.procs under.proc ≡ Some p = walk.is in
+      let is_p : IsProcOf program under.proc p = walk.is in
       let arc_is : slice_get (own_graph p).arcs k ≡ Some arc = subst (λ (o : Option Proc). slice_get (flow_of (body_of o)).arcs k ≡ Some arc) is_p edge.2 in
       let place = call-place (own_graph p).arcs k arc top.proc values into arc_is edge.3 in
       let calling : Calling = record { callee = top.proc; args = values } in
@@ -203,7 +204,7 @@ module _ (program : Program) (flows : List Flow) (formed : IsWellFormed program)
     pub is : slice_get cells (node_of program.main proc) ≡ Some cell
     pub vocabulary_is : vocabulary_at (entry_graph program flows) (node_of program.main proc) ≡ entry_of program p
 
-  entry-cell : (proc : ℕ) (p : Proc) → slice_get program.procs proc ≡ Some p → EntryCell proc p
+  entry-cell : (proc : ℕ) (p : Proc) → IsProcOf program proc p → EntryCell proc p
   entry-cell proc p is =
       let m = main-is program formed in
       let node = node-found program m.0 m.1 proc p is in

@@ -9,8 +9,8 @@ use Rattle.linear_terms.specs.declared.row.Case.{Case}
 use Rattle.transition_formula.specs.Composition.{after_case, sequence_of, sequence_of_cases}
 use Rattle.transition_formula.specs.Posts.{case_with_posts, with_posts}
 use Rattle.transition_formula.specs.Transition.{Transition, fits, AreFew, AreSolvable, IsFitted, IsSolvable, IsTransition}
-use Rattle.transition_formula.proofs.Covered.{both, lost}
-use Rattle.transition_formula.proofs.Fitted.{fits-solvable}
+use Rattle.transition_formula.proofs.ColumnTests.{both, lost}
+use Rattle.transition_formula.proofs.FittedFormulas.{fits-solvable}
 use Rattle.transition_formula.proofs.Fitting.{fitting}
 use Rattle.std.proofs.lemmas.List.Sums.{count_by-le-length}
 use Rattle.context.specs.Ends.{HasFew}

@@ -13,7 +13,7 @@ use Rattle.linear_terms.specs.Polynomial.{Polynomial, column_of}
 use Rattle.linear_terms.specs.Value.{Valuation, value_of}
 use Rattle.transition_formula.specs.Meaning.{numbers, HoldsCase, HoldsSome, Holds}
 use Rattle.transition_formula.specs.Transition.{Transition, every_column, is_below, fits, IsTransition}
-use Rattle.transition_formula.proofs.Covered.{both, both_true, all_more, more_columns, more_columns_of}
+use Rattle.transition_formula.proofs.ColumnTests.{both, both_true, all_more, more_columns, more_columns_of}
 use Rattle.transition_formula.proofs.Fitting.{Fitting, fitting, from_fitting, below-true, true-below, is_below-more, columns_pass}
 use Rattle.transition_formula.proofs.Meanings.{both_aux, first_aux, lost_aux}
 use Rattle.transition_formula.proofs.Values.{column-value, rows-agree, posts-agree}

@@ -11,6 +11,7 @@ use Rattle.polyhedra.specs.Vocabulary.{Vocabulary}
 use Rattle.syntax_tree.specs.declared.program.Proc.{Proc}
 use Rattle.syntax_tree.specs.declared.program.Program.{Program}
 use Rattle.vocabularies.specs.Ends.{entry_of}
+use Rattle.vocabularies.specs.Procs.{IsProcOf}
 use Rattle.proc_summary.specs.declared.stop.Flow.{Flow}
 use Rattle.proc_summary.specs.declared.stop.NodeFormula.{NodeFormula}
 use Rattle.proc_summary.specs.Subject.{own_graph}
@@ -95,7 +96,7 @@ from-there (y ∷ xs) zero x e = let same : y ≡ x = cc in ap (λ z. z ∷ xs) 
 from-there (y ∷ xs) (suc i) x e = let n : suc i + 1 ≡ suc (i + 1) = omega arith in from-there xs i x e ∙ ap (λ k. x ∷ drop k (y ∷ xs)) (sym n)
 
 module _ (program : Program) where
-  pub proc-next : (flows : List Flow) (number : ℕ) (p : Proc) (flow : Flow) (made more whole : Edges) → slice_get program.procs number ≡ Some p → slice_get flows number ≡ Some flow
+  pub proc-next : (flows : List Flow) (number : ℕ) (p : Proc) (flow : Flow) (made more whole : Edges) → IsProcOf program number p → slice_get flows number ≡ Some flow
       → with_ways made (ways_from program number (drop number program.procs) (drop number flows)) ≡ whole
       → more ≡ with_ways made (call_ways program.main number (widths_of program p) (callings_in (own_graph p).arcs) flow.calls)
       → with_ways more (ways_from program (number + 1) (drop (number + 1) program.procs) (drop (number + 1) flows)) ≡ whole
@@ -113,7 +114,7 @@ module _ (program : Program) where
 
   -- ---- the nodes
 
-  pub node-next : (number : ℕ) (p : Proc) (made more whole : List Vocabulary) → slice_get program.procs number ≡ Some p
+  pub node-next : (number : ℕ) (p : Proc) (made more whole : List Vocabulary) → IsProcOf program number p
       → made ++ others_from program number (drop number program.procs) ≡ whole → more ≡ made ++ unless_main (number == program.main) (entry_of program p) []
       → more ++ others_from program (number + 1) (drop (number + 1) program.procs) ≡ whole
   node-next number p made more whole is_p so_far pushed =

@@ -20,6 +20,7 @@ use Rattle.flow_graph.specs.Walks.{Stands, WalksTo}
 use Rattle.flow_graph.proofs.StackChain.{failures_are_in_chains}
 use Rattle.flow_graph.proofs.Theorems.{checks_are_walks}
 use Rattle.transition_formula.specs.Transition.{Transition}
+use Rattle.vocabularies.specs.Procs.{IsProcOf}
 use Rattle.proc_summary.specs.declared.stop.Flow.{Flow}
 use Rattle.proc_summary.specs.declared.stop.NodeFormula.{NodeFormula}
 use Rattle.proc_summary.specs.Claims.{FitsFlow, FlowHolds, HoldsIf, StopHolds, nodes_of}
@@ -33,7 +34,7 @@ pub stands-top : (program : Program) (bottom top : Beginning) (globals : State) 
 stands-top program bottom top globals items frame [] h = h.2
 stands-top program bottom top globals items frame (caller ∷ below) h = h.1
 
-pub never-fails : (program : Program) (proc check : ℕ) (p : Proc) (at : CheckPlace) (flow : Flow) (stop : NodeFormula) (entry : Option Transition) → IsWellFormed program → slice_get program.procs proc ≡ Some p → slice_get (own_graph p).checks check ≡ Some at
+pub never-fails : (program : Program) (proc check : ℕ) (p : Proc) (at : CheckPlace) (flow : Flow) (stop : NodeFormula) (entry : Option Transition) → IsWellFormed program → IsProcOf program proc p → slice_get (own_graph p).checks check ≡ Some at
     → slice_get flow.checks check ≡ Some stop → FitsFlow program p flow → EntryHolds program proc entry → FlowHolds program proc flow → NoneFails (place_of program p) at.cond entry stop.formula → Fails program at.number → ⊥
 never-fails program proc check p at flow stop entry formed is_p is_at is_stop fit enters holds none fails =
     let found = failures_are_in_chains program at.number fails in

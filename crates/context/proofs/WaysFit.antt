@@ -14,12 +14,13 @@ use Rattle.syntax_tree.specs.declared.program.Program.{Program}
 use Rattle.syntax_tree.specs.Code.{Statement, Set, Any, Call, Guard, Check, If, Loop, Break, Continue, Return}
 use Rattle.syntax_tree.specs.WellFormed.{IsProcFit, IsWellFormed, width_of}
 use Rattle.transition_formula.specs.Transition.{IsSolvable, IsTransition, every_column, fits, is_below}
-use Rattle.transition_formula.proofs.Covered.{both_true}
-use Rattle.transition_formula.proofs.Fitted.{fits-solvable}
+use Rattle.transition_formula.proofs.ColumnTests.{both_true}
+use Rattle.transition_formula.proofs.FittedFormulas.{fits-solvable}
 use Rattle.transition_formula.proofs.Fitting.{from_fitting}
 use Rattle.flow_graph.specs.FlowGraph.{Arc, body_of, flow_of}
 use Rattle.leaf_cases.proofs.Graphs.{EdgeFits, act-fits}
 use Rattle.vocabularies.specs.Ends.{entry_of, entry_width, start_of}
+use Rattle.vocabularies.specs.Procs.{IsProcOf}
 use Rattle.proc_summary.specs.declared.stop.Flow.{Flow}
 use Rattle.proc_summary.specs.declared.stop.NodeFormula.{NodeFormula}
 use Rattle.proc_summary.specs.Claims.{FitsFlow, FitsStop}
@@ -42,7 +43,7 @@ each-by-place P (x ∷ xs) h = (h 0 x refl, each-by-place P xs (λ k y e. h (suc
 -- a call of a procedure with a number for each parameter
 pub record IsCalling (program : Program) (columns : ℕ) (calling : Calling) : Type 0 where
   pub callee : Proc
-  pub is : slice_get program.procs calling.callee ≡ Some callee
+  pub is : IsProcOf program calling.callee callee
   pub params : callee.params ≡ length calling.args
   pub args : AreArguments columns calling.args
 
@@ -79,19 +80,19 @@ pub start-leaf-fits : (program : Program) → IsTransition 0 (length program.glo
 start-leaf-fits program = both_true (fits 0 (length program.globals) (start_case program)) true (start-fits program) refl
 
 module _ (program : Program) (formed : IsWellFormed program) where
-  pub arcs-fit : (number : ℕ) (p : Proc) → slice_get program.procs number ≡ Some p → AllByRecursion (λ (way : Arc). EdgeFits program (width_of program p) way.act) (own_graph p).arcs
+  pub arcs-fit : (number : ℕ) (p : Proc) → IsProcOf program number p → AllByRecursion (λ (way : Arc). EdgeFits program (width_of program p) way.act) (own_graph p).arcs
   arcs-fit number p is =
       each-by-place (λ (way : Arc). EdgeFits program (width_of program p) way.act) (own_graph p).arcs
       (λ k way e. act-fits program number p way.act formed is
       (record { place = k; way = way; is = ap (λ (o : Option Proc). slice_get (flow_of (body_of o)).arcs k) is ∙ e; does = refl }))
 
-  pub callings-fit : (number : ℕ) (p : Proc) → slice_get program.procs number ≡ Some p → AllByRecursion (IsCalling program (width_of program p)) (callings_in (own_graph p).arcs)
+  pub callings-fit : (number : ℕ) (p : Proc) → IsProcOf program number p → AllByRecursion (IsCalling program (width_of program p)) (callings_in (own_graph p).arcs)
   callings-fit number p is =
       each-flat_map (λ (way : Arc). EdgeFits program (width_of program p) way.act) (IsCalling program (width_of program p)) (λ way. calling_by way.act)
       (λ way fit. calling-fits program (width_of program p) way.act formed fit) (own_graph p).arcs (arcs-fit number p is)
 
-  module _ (m : Proc) (is_main : slice_get program.procs program.main ≡ Some m) (no_params : m.params ≡ 0) where
-    call-way-fits : (number : ℕ) (p : Proc) → slice_get program.procs number ≡ Some p → (calling : Calling) (stop : NodeFormula) → IsCalling program (width_of program p) calling → FitsStop (width_of program p) stop
+  module _ (m : Proc) (is_main : IsProcOf program program.main m) (no_params : m.params ≡ 0) where
+    call-way-fits : (number : ℕ) (p : Proc) → IsProcOf program number p → (calling : Calling) (stop : NodeFormula) → IsCalling program (width_of program p) calling → FitsStop (width_of program p) stop
         → IsWay program (call_way program.main number (widths_of program p) calling stop)
     call-way-fits number p is calling stop call fit =
         let w : Widths = widths_of program p in
@@ -111,7 +112,7 @@ module _ (program : Program) (formed : IsWellFormed program) where
           solvable = leaf-solvable w wide stop.formula fit calling.args call.args;
         }
 
-    call-ways-fit : (number : ℕ) (p : Proc) → slice_get program.procs number ≡ Some p → (callings : List Calling) (stops : List NodeFormula) → AllByRecursion (IsCalling program (width_of program p)) callings
+    call-ways-fit : (number : ℕ) (p : Proc) → IsProcOf program number p → (callings : List Calling) (stops : List NodeFormula) → AllByRecursion (IsCalling program (width_of program p)) callings
         → AllByRecursion (FitsStop (width_of program p)) stops → AreWays program (call_ways program.main number (widths_of program p) callings stops)
     call-ways-fit number p is [] stops h k = tt
     call-ways-fit number p is (calling ∷ callings) [] h k = tt
@@ -123,7 +124,7 @@ module _ (program : Program) (formed : IsWellFormed program) where
     ways-from-fit number (p ∷ procs) [] there fit = tt
     ways-from-fit number (p ∷ procs) (flow ∷ flows) there fit =
         let zero_more : number + 0 ≡ number = omega arith in
-        let is : slice_get program.procs number ≡ Some p = sym (ap (slice_get program.procs) zero_more) ∙ there 0 p refl in
+        let is : IsProcOf program number p = sym (ap (slice_get program.procs) zero_more) ∙ there 0 p refl in
         let flow_fits = fit 0 p flow refl refl in
         each-append (IsWay program) (call_ways program.main number (widths_of program p) (callings_in (own_graph p).arcs) flow.calls) (ways_from program (number + 1) procs flows)
         (call-ways-fit number p is (callings_in (own_graph p).arcs) flow.calls (callings-fit number p is) (recursion_from_All (FitsStop (width_of program p)) flow.calls flow_fits.calls))
@@ -158,10 +159,10 @@ module _ (program : Program) (formed : IsWellFormed program) where
     ways-fit flows are = (start-way-fits, ways-from-fit 0 program.procs flows (λ k p e. let same : 0 + k ≡ k = omega arith in ap (slice_get program.procs) same ∙ e) (λ k p flow e d. are.fit k p flow e d))
 
 -- `main` is a procedure without parameters
-pub main-is : (program : Program) → IsWellFormed program → (m : Proc) × (slice_get program.procs program.main ≡ Some m) × (m.params ≡ 0)
+pub main-is : (program : Program) → IsWellFormed program → (m : Proc) × (IsProcOf program program.main m) × (m.params ≡ 0)
 main-is program formed = go (slice_get program.procs program.main) refl formed.main
   where
-    go : (o : Option Proc) → slice_get program.procs program.main ≡ o → IsSomeAnd o (λ p. p.params ≡ 0) → (m : Proc) × (slice_get program.procs program.main ≡ Some m) × (m.params ≡ 0)
+    go : (o : Option Proc) → slice_get program.procs program.main ≡ o → IsSomeAnd o (λ p. p.params ≡ 0) → (m : Proc) × (IsProcOf program program.main m) × (m.params ≡ 0)
     go None e h = absurd h
     go (Some m) e h = (m, e, h)
 

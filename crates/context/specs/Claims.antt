@@ -7,6 +7,7 @@ use Rattle.execution.specs.Machine.{Config}
 use Rattle.flow_graph.specs.Stack.{Beginning, IsChain}
 use Rattle.transition_formula.specs.Transition.{Transition, IsTransition, IsFitted, fits}
 use Rattle.vocabularies.specs.Ends.{entry_width}
+use Rattle.vocabularies.specs.Procs.{IsProcOf}
 use Rattle.proc_summary.specs.declared.stop.Flow.{Flow}
 use Rattle.proc_summary.specs.Claims.{FitsFlow, FlowHolds, HoldsIf}
 use Rattle.report.specs.declared.verdict.Verdict.{Verdict}
@@ -17,7 +18,7 @@ use Rattle.report.specs.declared.verdict.Verdict.TheVariants.{Proved, Unproved, 
 -- one for each procedure, which fits it
 pub record AreFlows (program : Program) (flows : List Flow) : Type 0 where
   pub each : length flows ≡ length program.procs
-  pub fit : (proc : ℕ) (p : Proc) (flow : Flow) → slice_get program.procs proc ≡ Some p
+  pub fit : (proc : ℕ) (p : Proc) (flow : Flow) → IsProcOf program proc p
       → slice_get flows proc ≡ Some flow → FitsFlow program p flow
 
 -- and holds of its activations
@@ -44,7 +45,7 @@ IsEntryIf columns (Some f) = IsEntry columns f
 pub record AreEntries (program : Program) (entries : List (Option Transition)) : Type 0 where
   pub each : length entries ≡ length program.procs
   pub fit : (proc : ℕ) (p : Proc) (entry : Option Transition)
-      → slice_get program.procs proc ≡ Some p → slice_get entries proc ≡ Some entry
+      → IsProcOf program proc p → slice_get entries proc ≡ Some entry
       → IsEntryIf (entry_width program p) entry
 
 -- ---- what they say of executions

@@ -6,6 +6,7 @@ use Rattle.syntax_tree.specs.WellFormed.{IsWellFormed}
 use Rattle.execution.specs.Execution.{Fails}
 use Rattle.flow_graph.specs.FlowGraph.{CheckPlace}
 use Rattle.transition_formula.specs.Transition.{Transition}
+use Rattle.vocabularies.specs.Procs.{IsProcOf}
 use Rattle.proc_summary.specs.declared.stop.Flow.{Flow}
 use Rattle.proc_summary.specs.declared.stop.NodeFormula.{NodeFormula}
 use Rattle.proc_summary.specs.Claims.{FitsFlow, FlowHolds}
@@ -20,7 +21,7 @@ abbrev pub AssertionsHold : Type 0
 AssertionsHold =
     (program : Program) (proc check : ℕ) (p : Proc) (at : CheckPlace) (flow : Flow) (stop : NodeFormula)
     (entry : Option Transition) →
-    IsWellFormed program → slice_get program.procs proc ≡ Some p
+    IsWellFormed program → IsProcOf program proc p
     → slice_get (own_graph p).checks check ≡ Some at →
     slice_get flow.checks check ≡ Some stop → FitsFlow program p flow →
     EntryHolds program proc entry → FlowHolds program proc flow →

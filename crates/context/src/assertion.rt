@@ -9,9 +9,10 @@ ghost use Rattle.flow_graph.specs.Plain.{plain};
 ghost use Rattle.linear_terms.specs.declared.col.Col.TheVariants.{Aux};
 ghost use Rattle.linear_terms.specs.Polynomial.{column_of};
 ghost use Rattle.transition_formula.specs.Transition.{AreSolvable};
-ghost use Rattle.posing.specs.Follows.{Follows};
+ghost use Rattle.posing.specs.Follows.{Asks};
 ghost use Rattle.posing.specs.Logs.{Adds, loss_notes};
 ghost use Rattle.vocabularies.specs.Ends.{entry_width};
+ghost use Rattle.vocabularies.specs.Procs.{IsProcOf};
 ghost use Rattle.proc_summary.specs.declared.stop.NodeFormula.{NodeFormula};
 ghost use Rattle.proc_summary.specs.Claims.{FitsFlow, FitsIf, FlowHolds, IsBetweenStates};
 ghost use Rattle.proc_summary.specs.Subject.{own_graph};
@@ -60,21 +61,21 @@ pub fn verdict<O: Oracle>(
     requires formed { IsWellFormed program.now }
     requires procedure { proc < length program.now.procs }
     requires assertion { check < length flow.now.checks }
-    requires flow { (p : Procedure) → slice_get program.now.procs proc ≡ Some p
+    requires flow { (p : Procedure) → IsProcOf program.now proc p
         → FitsFlow program.now p flow.now }
-    requires entry { (p : Procedure) → slice_get program.now.procs proc ≡ Some p
+    requires entry { (p : Procedure) → IsProcOf program.now proc p
         → IsEntryIf (entry_width program.now p) entry.now }
     ensures follows { (p : Procedure) (at : CheckPlace) (stop : NodeFormula)
-        → slice_get program.now.procs proc ≡ Some p → slice_get (own_graph p).checks check ≡ Some at
+        → IsProcOf program.now proc p → slice_get (own_graph p).checks check ≡ Some at
         → slice_get flow.now.checks check ≡ Some stop
-        → Follows O.asking oracle.old oracle.new log.old log.new result
+        → Asks O.asking oracle log result
         (verdict_of (place_of program.now p) at.cond entry.now stop.formula) }
-    ensures sound { (p : Procedure) (at : CheckPlace) → slice_get program.now.procs proc ≡ Some p
+    ensures sound { (p : Procedure) (at : CheckPlace) → IsProcOf program.now proc p
         → slice_get (own_graph p).checks check ≡ Some at → EntryHolds program.now proc entry.now
         → FlowHolds program.now proc flow.now → result ≡ Ok Proved → Fails program.now at.number
         → ⊥ }
     ensures refuted { IfOk result IsRefuted }
-    ensures fits { (p : Procedure) → slice_get program.now.procs proc ≡ Some p
+    ensures fits { (p : Procedure) → IsProcOf program.now proc p
         → IfOk result (FitsVerdict (length (shown_columns_of program.now p))) }
 {
     let graph = graph(alloc, program, proc)?;
@@ -103,21 +104,21 @@ pub fn graph_verdict<O: Oracle>(
     requires procedure { proc < length program.now.procs }
     requires graph { plain graph.now ≡ graph_of program.now proc }
     requires assertion { check < length flow.now.checks }
-    requires flow { (p : Procedure) → slice_get program.now.procs proc ≡ Some p
+    requires flow { (p : Procedure) → IsProcOf program.now proc p
         → FitsFlow program.now p flow.now }
-    requires entry { (p : Procedure) → slice_get program.now.procs proc ≡ Some p
+    requires entry { (p : Procedure) → IsProcOf program.now proc p
         → IsEntryIf (entry_width program.now p) entry.now }
     ensures follows { (p : Procedure) (at : CheckPlace) (stop : NodeFormula)
-        → slice_get program.now.procs proc ≡ Some p → slice_get (own_graph p).checks check ≡ Some at
+        → IsProcOf program.now proc p → slice_get (own_graph p).checks check ≡ Some at
         → slice_get flow.now.checks check ≡ Some stop
-        → Follows O.asking oracle.old oracle.new log.old log.new result
+        → Asks O.asking oracle log result
         (verdict_of (place_of program.now p) at.cond entry.now stop.formula) }
-    ensures sound { (p : Procedure) (at : CheckPlace) → slice_get program.now.procs proc ≡ Some p
+    ensures sound { (p : Procedure) (at : CheckPlace) → IsProcOf program.now proc p
         → slice_get (own_graph p).checks check ≡ Some at → EntryHolds program.now proc entry.now
         → FlowHolds program.now proc flow.now → result ≡ Ok Proved → Fails program.now at.number
         → ⊥ }
     ensures refuted { IfOk result IsRefuted }
-    ensures fits { (p : Procedure) → slice_get program.now.procs proc ≡ Some p
+    ensures fits { (p : Procedure) → IsProcOf program.now proc p
         → IfOk result (FitsVerdict (length (shown_columns_of program.now p))) }
 {
     let stand = &flow.checks.as_slice()[check as usize].formula;
@@ -141,7 +142,7 @@ fn verdict_at<O: Oracle>(
     requires cond { IsCondition place.now.columns (term_of cond.now) }
     requires entry { IsEntryIf place.now.entry entry.now }
     requires stand { FitsIf place.now.columns stand.now }
-    ensures follows { Follows O.asking oracle.old oracle.new log.old log.new result
+    ensures follows { Asks O.asking oracle log result
         (verdict_of place.now (term_of cond.now) entry.now stand.now) }
     ensures sound { result ≡ Ok Proved
         → NoneFails place.now (term_of cond.now) entry.now stand.now }
@@ -251,8 +252,7 @@ fn reach_formula<O: Oracle>(
     requires begun { IsFromStart place.now.columns begun.now }
     requires few { HasFew 127 begun.now }
     requires stand { IsBetweenStates place.now.columns stand.now }
-    ensures follows { Follows O.asking oracle.old oracle.new log.old log.new result
-        (reach_from place.now begun.now stand.now) }
+    ensures follows { Asks O.asking oracle log result (reach_from place.now begun.now stand.now) }
     ensures fits { IfOk result (IsFromStart place.now.columns) }
     ensures few { IfOk result (HasFew 64) }
     ensures holds { IfOk result (HoldsAfter begun.now stand.now) }
@@ -277,7 +277,7 @@ fn failure_verdict<O: Oracle>(
     requires cond { IsCondition place.now.columns (term_of cond.now) }
     requires formula { IsFromStart place.now.columns f.now }
     requires few { HasFew 64 f.now }
-    ensures follows { Follows O.asking oracle.old oracle.new log.old log.new result
+    ensures follows { Asks O.asking oracle log result
         (failure_verdict_from place.now (term_of cond.now) f.now) }
     ensures sound { result ≡ Ok Proved → NoneFailsAt (term_of cond.now) f.now }
     ensures refuted { IfOk result IsRefuted }

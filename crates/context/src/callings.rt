@@ -1,7 +1,8 @@
-ghost use Rattle.std.specs.Prelude.{◌≡◌, ◌+◌, ◌<◌, ◌≤◌, ◌∷◌, [], All, Some, drop, length, map, slice_get, IfOk};
+ghost use Rattle.std.specs.Prelude.{◌≡◌, ◌+◌, ◌<◌, ◌≤◌, ◌∷◌, [], All, drop, length, map, IfOk};
 ghost use Rattle.syntax_tree.specs.Term.{term_of};
 ghost use Rattle.syntax_tree.specs.WellFormed.{IsWellFormed};
 ghost use Rattle.syntax_tree.specs.declared.program.Proc.{Proc as Procedure};
+ghost use Rattle.vocabularies.specs.Procs.{IsProcOf};
 ghost use Rattle.flow_graph.specs.Plain.{statement_of_act};
 ghost use Rattle.proc_summary.specs.Claims.{FitsFlow, FitsStop};
 ghost use Rattle.proc_summary.specs.Subject.{own_graph};
@@ -28,9 +29,9 @@ pub(crate) fn with_calls(
 ) -> Result<Edges, FormulaError>
     requires formed { IsWellFormed program.now }
     requires procedure { number < length program.now.procs }
-    requires flow { (p : Procedure) → slice_get program.now.procs number ≡ Some p
+    requires flow { (p : Procedure) → IsProcOf program.now number p
         → FitsFlow program.now p flow.now }
-    ensures { (p : Procedure) → slice_get program.now.procs number ≡ Some p
+    ensures { (p : Procedure) → IsProcOf program.now number p
         → IfOk result
         (λ all. all ≡ with_ways made
         (call_ways program.now.main number (widths_of program.now p)

@@ -1,6 +1,6 @@
 ghost use Rattle.std.specs.Prelude.{◌≡◌, ◌≤◌, ◌<◌, length, IfOk};
 ghost use Rattle.syntax_tree.specs.WellFormed.{IsWellFormed};
-ghost use Rattle.posing.specs.Follows.{Follows};
+ghost use Rattle.posing.specs.Follows.{Asks};
 ghost use Rattle.proc_summary.specs.Flow.{formula_at, formula_of};
 ghost use Rattle.context.specs.Claims.{AreEntries, AreFlows, EntriesHold, FlowsHold};
 ghost use Rattle.context.specs.Entries.{entries_from, entries_in};
@@ -38,8 +38,7 @@ pub fn entries<O: Oracle>(
 ) -> Result<Items<Option<Formula>>, WorkError>
     requires formed { IsWellFormed program.now }
     requires flows { AreFlows program.now flows.now }
-    ensures follows { Follows O.asking oracle.old oracle.new log.old log.new result
-        (entries_from program.now flows.now) }
+    ensures follows { Asks O.asking oracle log result (entries_from program.now flows.now) }
     ensures fits { IfOk result (AreEntries program.now) }
     ensures holds { FlowsHold program.now flows.now → IfOk result (EntriesHold program.now) }
 {

@@ -3,7 +3,7 @@ ghost use Rattle.std.specs.List.{filter_map, list_any};
 ghost use Rattle.farkas_check.specs.declared.question.Question.TheVariants.{Infeasible};
 ghost use Rattle.transition_formula.specs.Rounds.{in_order};
 ghost use Rattle.transition_formula.specs.Transition.{IsSolvable, AreSolvable};
-ghost use Rattle.posing.specs.Follows.{Follows};
+ghost use Rattle.posing.specs.Follows.{Asks};
 ghost use Rattle.posing.specs.Posing.{each};
 ghost use Rattle.posing.specs.Logs.{Adds, loss_notes};
 ghost use Rattle.context.specs.SecondQuestions.{twofold};
@@ -39,8 +39,7 @@ pub fn verdict_on_cases<O: Oracle>(
     log: &mut Log,
 ) -> Result<Verdict, WorkError>
     requires { AreSolvable cases.now }
-    ensures follows { Follows O.asking oracle.old oracle.new log.old log.new result
-        (verdict_on_cases_from rule cases.now) }
+    ensures follows { Asks O.asking oracle log result (verdict_on_cases_from rule cases.now) }
     ensures known { IfOk result (IsVerdictOnAll cases.now) }
 {
     let verdicts = verdicts_on(alloc, rule, cases, oracle, log)?;
@@ -56,8 +55,7 @@ fn verdicts_on<O: Oracle>(
     log: &mut Log,
 ) -> Result<Items<Verdict>, WorkError>
     requires { AreSolvable cases.now }
-    ensures follows { Follows O.asking oracle.old oracle.new log.old log.new result
-        (each (with_verdict rule) [] cases.now) }
+    ensures follows { Asks O.asking oracle log result (each (with_verdict rule) [] cases.now) }
     ensures known { IfOk result (AreVerdictsOn cases.now) }
 {
     let mut made = Items::new(alloc);
@@ -78,8 +76,7 @@ fn with_verdict<O: Oracle>(
     log: &mut Log,
 ) -> Result<Items<Verdict>, WorkError>
     requires { IsSolvable case.now }
-    ensures follows { Follows O.asking oracle.old oracle.new log.old log.new result
-        (with_verdict rule made case.now) }
+    ensures follows { Asks O.asking oracle log result (with_verdict rule made case.now) }
     ensures known { IfOk result (AddsVerdict case.now made) }
 {
     let verdict = case_verdict(alloc, rule, case, oracle, log)?;
@@ -98,8 +95,7 @@ fn case_verdict<O: Oracle>(
     log: &mut Log,
 ) -> Result<Verdict, WorkError>
     requires { IsSolvable case.now }
-    ensures follows { Follows O.asking oracle.old oracle.new log.old log.new result
-        (case_verdict rule case.now) }
+    ensures follows { Asks O.asking oracle log result (case_verdict rule case.now) }
     ensures known { IfOk result (IsVerdictOn case.now) }
 {
     match solve_noted(alloc, case, log)? {
@@ -132,8 +128,7 @@ fn verdict_left<O: Oracle>(
     oracle: &mut O,
     log: &mut Log,
 ) -> Result<Verdict, WorkError>
-    ensures follows { Follows O.asking oracle.old oracle.new log.old log.new result
-        (verdict_left rule (Some case)) }
+    ensures follows { Asks O.asking oracle log result (verdict_left rule (Some case)) }
     ensures known { IfOk result (IsVerdictOn case) }
 {
     if has_phases(rule) {
@@ -151,8 +146,7 @@ fn twofold_verdict<O: Oracle>(
     oracle: &mut O,
     log: &mut Log,
 ) -> Result<Verdict, WorkError>
-    ensures follows { Follows O.asking oracle.old oracle.new log.old log.new result
-        (twofold (verdict_at case case.rows)) }
+    ensures follows { Asks O.asking oracle log result (twofold (verdict_at case case.rows)) }
     ensures known { IfOk result (IsVerdictOn case) }
 {
     let verdict = verdict_at(alloc, case, oracle, log)?;
@@ -167,8 +161,7 @@ fn verdict_at<O: Oracle>(
     oracle: &mut O,
     log: &mut Log,
 ) -> Result<Verdict, WorkError>
-    ensures follows { Follows O.asking oracle.old oracle.new log.old log.new result
-        (verdict_at case case.rows) }
+    ensures follows { Asks O.asking oracle log result (verdict_at case case.rows) }
     ensures known { IfOk result (IsVerdictOn case) }
 {
     if case.rows.is_empty() {

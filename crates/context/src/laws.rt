@@ -2,6 +2,6 @@
 ghost use Rattle.context.specs.Laws.{AssertionsHold};
 
 /// An assertion whose condition is false in no state that leads to it never fails.
-pub fn law_of_assertions()
+pub fn assertions_hold()
     ensures { AssertionsHold }
 {}

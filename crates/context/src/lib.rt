@@ -16,4 +16,4 @@ mod stand;
 pub use assertion::{graph_verdict, verdict};
 pub use entry_formulas::entries;
 pub use judging::verdict_on_cases;
-pub use laws::law_of_assertions;
+pub use laws::assertions_hold;

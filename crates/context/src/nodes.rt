@@ -1,7 +1,8 @@
-ghost use Rattle.std.specs.Prelude.{◌≡◌, ◌<◌, ◌==◌, ◌++◌, [], Some, length, slice_get, IfOk};
+ghost use Rattle.std.specs.Prelude.{◌≡◌, ◌<◌, ◌==◌, ◌++◌, [], length, IfOk};
 ghost use Rattle.syntax_tree.specs.WellFormed.{IsWellFormed};
 ghost use Rattle.syntax_tree.specs.declared.program.Proc.{Proc as Procedure};
 ghost use Rattle.vocabularies.specs.Ends.{entry_of};
+ghost use Rattle.vocabularies.specs.Procs.{IsProcOf};
 ghost use Rattle.context.specs.Entries.{nodes_of, unless_main};
 
 use items::Items;
@@ -34,7 +35,7 @@ fn with_other(
 ) -> Result<Items<Vocabulary>, AllocError>
     requires formed { IsWellFormed program.now }
     requires procedure { number < length program.now.procs }
-    ensures { (p : Procedure) → slice_get program.now.procs number ≡ Some p
+    ensures { (p : Procedure) → IsProcOf program.now number p
         → IfOk result
         (λ all. all ≡ nodes ++ unless_main (number == program.now.main) (entry_of program.now p)
         []) }

@@ -1,7 +1,8 @@
-ghost use Rattle.std.specs.Prelude.{◌≡◌, ◌<◌, ◌-◌, Some, length, slice_get, take, IfOk};
+ghost use Rattle.std.specs.Prelude.{◌≡◌, ◌<◌, ◌-◌, length, take, IfOk};
 ghost use Rattle.syntax_tree.specs.WellFormed.{IsWellFormed};
 ghost use Rattle.syntax_tree.specs.declared.program.Proc.{Proc as Procedure};
 ghost use Rattle.vocabularies.specs.Ends.{entry_width};
+ghost use Rattle.vocabularies.specs.Procs.{IsProcOf};
 ghost use Rattle.context.specs.Ends.{IsPlace};
 ghost use Rattle.context.specs.Verdicts.{place_of, shown_columns_of};
 
@@ -29,7 +30,7 @@ pub(crate) fn place_of(
 ) -> Result<AssertionPlace, AllocError>
     requires formed { IsWellFormed program.now }
     requires procedure { proc < length program.now.procs }
-    ensures exact { (p : Procedure) → slice_get program.now.procs proc ≡ Some p
+    ensures exact { (p : Procedure) → IsProcOf program.now proc p
         → IfOk result (λ place. place ≡ place_of program.now p) }
     ensures known { IfOk result IsPlace }
 {
@@ -61,7 +62,7 @@ fn shown_columns(alloc: Global, full: &Vocabulary) -> Result<Items<u32>, AllocEr
 pub(crate) fn entry_width(program: &Program, proc: u32) -> u32
     requires formed { IsWellFormed program.now }
     requires procedure { proc < length program.now.procs }
-    ensures { (p : Procedure) → slice_get program.now.procs proc ≡ Some p
+    ensures { (p : Procedure) → IsProcOf program.now proc p
         → result ≡ entry_width program.now p }
 {
     program.globals.len() as u32 + program.procs.as_slice()[proc as usize].params

@@ -1,6 +1,6 @@
 ghost use Rattle.std.specs.Prelude.{◌≡◌, IfOk};
 ghost use Rattle.farkas_check.specs.declared.question.Question.TheVariants.{Infeasible};
-ghost use Rattle.posing.specs.Follows.{Follows};
+ghost use Rattle.posing.specs.Follows.{Asks};
 ghost use Rattle.posing.specs.Posing.{answer_to};
 ghost use Rattle.polyhedra.specs.Infeasibility.{is_yes};
 ghost use Rattle.context.specs.SecondQuestions.{proved_if, second_rows, second_verdict, with_products};
@@ -22,8 +22,7 @@ pub(crate) fn second_verdict<O: Oracle>(
     oracle: &mut O,
     log: &mut Log,
 ) -> Result<Verdict, WorkError>
-    ensures { Follows O.asking oracle.old oracle.new log.old log.new result
-        (second_verdict verdict) }
+    ensures { Asks O.asking oracle log result (second_verdict verdict) }
 {
     let rows = second_rows(alloc, &verdict)?;
     if rows.is_empty() {
@@ -64,8 +63,7 @@ fn answer_on<O: Oracle>(
     oracle: &mut O,
     log: &mut Log,
 ) -> Result<Answer, WorkError>
-    ensures { Follows O.asking oracle.old oracle.new log.old log.new result
-        (answer_to (Infeasible rows)) }
+    ensures { Asks O.asking oracle log result (answer_to (Infeasible rows)) }
 {
     ask(alloc, &Question::Infeasible(rows), oracle, log)
 }

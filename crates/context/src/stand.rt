@@ -1,7 +1,8 @@
-ghost use Rattle.std.specs.Prelude.{◌≡◌, ◌<◌, ◌≤◌, ◌++◌, Some, length, map, slice_get, IfOk, OnOk};
+ghost use Rattle.std.specs.Prelude.{◌≡◌, ◌<◌, ◌≤◌, ◌++◌, Some, length, map, IfOk, OnOk};
 ghost use Rattle.syntax_tree.specs.Term.{term_of};
 ghost use Rattle.syntax_tree.specs.WellFormed.{IsWellFormed};
 ghost use Rattle.syntax_tree.specs.declared.program.Proc.{Proc as Procedure};
+ghost use Rattle.vocabularies.specs.Procs.{IsProcOf};
 ghost use Rattle.proc_summary.specs.Claims.{FitsIf, IsBetweenStates};
 ghost use Rattle.context.specs.Entries.{call_leaf, losses_in_call, stand_of, widths_of};
 ghost use Rattle.context.specs.Made.{AreArguments, AreWidths};
@@ -24,7 +25,7 @@ pub(crate) struct Widths {
 pub(crate) fn widths_of(program: &Program, proc: u32) -> Widths
     requires formed { IsWellFormed program.now }
     requires procedure { proc < length program.now.procs }
-    ensures exact { (p : Procedure) → slice_get program.now.procs proc ≡ Some p
+    ensures exact { (p : Procedure) → IsProcOf program.now proc p
         → result ≡ widths_of program.now p }
     ensures known { AreWidths result }
 {

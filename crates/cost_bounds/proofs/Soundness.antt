@@ -29,7 +29,7 @@ use Rattle.farkas_check.proofs.Tight.{passing}
 use Rattle.transition_formula.specs.Meaning.{numbers, HoldsAt, HoldsCase}
 use Rattle.posing.specs.Follows.{IsGood}
 use Rattle.posing.specs.Posing.{Posing, Done, answer_to, ◌>>=◌, down, AlwaysUnder}
-use Rattle.posing.proofs.Under.{under-bind, under-down}
+use Rattle.posing.proofs.UnderAnswers.{under-bind, under-down}
 use Rattle.cost_bounds.specs.declared.cost.Cost.{Cost}
 use Rattle.cost_bounds.specs.declared.cost.Cost.TheVariants as cost
 use Rattle.cost_bounds.specs.declared.kept.Kept.{Kept}

@@ -7,7 +7,7 @@ ghost use Rattle.linear_terms.specs.Polynomial.{without_constant};
 ghost use Rattle.linear_terms.specs.TermError.{cause};
 ghost use Rattle.farkas_check.specs.declared.answer.Answer.TheVariants.{Yes};
 ghost use Rattle.farkas_check.specs.declared.question.Question.TheVariants.{Infeasible};
-ghost use Rattle.posing.specs.Follows.{Follows};
+ghost use Rattle.posing.specs.Follows.{Asks};
 ghost use Rattle.posing.specs.Posing.{answer_to};
 ghost use Rattle.cost_bounds.specs.Changes.{change_of};
 ghost use Rattle.cost_bounds.specs.Questions.{cost_rows};
@@ -38,8 +38,7 @@ pub fn bound<O: Oracle>(
     log: &mut Log,
 ) -> Result<Cost, WorkError>
     requires { global < length case.now.post }
-    ensures follows { Follows O.asking oracle.old oracle.new log.old log.new result
-        (case_cost case.now global) }
+    ensures follows { Asks O.asking oracle log result (case_cost case.now global) }
     ensures met { IfOk result (IsMetByCase case.now global) }
     ensures says { IfOk result (Says O.asking.allows case.now global) }
 {
@@ -54,8 +53,7 @@ fn cost_of<O: Oracle>(
     log: &mut Log,
 ) -> Result<Cost, WorkError>
     requires { global < length case.now.post }
-    ensures { Follows O.asking oracle.old oracle.new log.old log.new result
-        (case_cost case.now global) }
+    ensures { Asks O.asking oracle log result (case_cost case.now global) }
 {
     let change = change_in(alloc, case, global);
     cost_by(alloc, &case.rows, change, oracle, log)
@@ -86,7 +84,7 @@ fn cost_by<O: Oracle>(
     log: &mut Log,
 ) -> Result<Cost, WorkError>
     ensures { (stated : Made) → Gives cause (λ p. p) change stated
-        → Follows O.asking oracle.old oracle.new log.old log.new result (cost_by rows.now stated) }
+        → Asks O.asking oracle log result (cost_by rows.now stated) }
 {
     match change {
         Ok(change) => cost_of_change(alloc, rows, change, oracle, log),
@@ -103,8 +101,7 @@ fn cost_of_change<O: Oracle>(
     oracle: &mut O,
     log: &mut Log,
 ) -> Result<Cost, WorkError>
-    ensures { Follows O.asking oracle.old oracle.new log.old log.new result
-        (cost_of_change change rows.now) }
+    ensures { Asks O.asking oracle log result (cost_of_change change rows.now) }
 {
     if is_over_entry(&change) {
         return Ok(Cost::Exact(change));
@@ -132,8 +129,7 @@ fn cost_by_last<O: Oracle>(
     log: &mut Log,
 ) -> Result<Cost, WorkError>
     ensures { (stated : Result Row TermError) → Gives cause (λ r. r) last stated
-        → Follows O.asking oracle.old oracle.new log.old log.new result
-        (cost_by_last change.now rows.now stated) }
+        → Asks O.asking oracle log result (cost_by_last change.now rows.now stated) }
 {
     match last {
         Ok(last) => cost_asked(alloc, rows, change, last, oracle, log),
@@ -151,8 +147,7 @@ fn cost_asked<O: Oracle>(
     oracle: &mut O,
     log: &mut Log,
 ) -> Result<Cost, WorkError>
-    ensures { Follows O.asking oracle.old oracle.new log.old log.new result
-        (cost_asked change.now rows.now last) }
+    ensures { Asks O.asking oracle log result (cost_asked change.now rows.now last) }
 {
     let entries = entry_rows(alloc, rows, change)?;
     let answer = first_answer(alloc, rows, &entries, &last, oracle, log)?;
@@ -167,7 +162,7 @@ fn first_answer<O: Oracle>(
     oracle: &mut O,
     log: &mut Log,
 ) -> Result<Answer, WorkError>
-    ensures { Follows O.asking oracle.old oracle.new log.old log.new result
+    ensures { Asks O.asking oracle log result
         (answer_to (Infeasible (cost_rows rows.now entries.now last.now))) }
 {
     let question = question_with(alloc, rows, entries, last)?;
@@ -198,7 +193,7 @@ fn cost_by_answer<O: Oracle>(
     oracle: &mut O,
     log: &mut Log,
 ) -> Result<Cost, WorkError>
-    ensures { Follows O.asking oracle.old oracle.new log.old log.new result
+    ensures { Asks O.asking oracle log result
         (by_answer change.now.rest last rows.now entries answer) }
 {
     match answer {
@@ -223,7 +218,7 @@ fn cost_by_yes<O: Oracle>(
     oracle: &mut O,
     log: &mut Log,
 ) -> Result<Cost, WorkError>
-    ensures { Follows O.asking oracle.old oracle.new log.old log.new result
+    ensures { Asks O.asking oracle log result
         (by_answer change.now.rest last rows.now entries (Yes by)) }
 {
     let kept = kept_part(rows, entries, by)?;

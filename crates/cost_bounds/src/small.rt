@@ -1,7 +1,7 @@
 ghost use Rattle.std.specs.Prelude.{◌≡◌, ◌<◌, length, IfOk};
 ghost use Rattle.std.specs.List.{remove};
 ghost use Rattle.farkas_check.specs.declared.question.Question.TheVariants.{Infeasible};
-ghost use Rattle.posing.specs.Follows.{Follows};
+ghost use Rattle.posing.specs.Follows.{Asks};
 ghost use Rattle.cost_bounds.specs.Questions.{cost_rows};
 ghost use Rattle.cost_bounds.specs.Small.{yes_to, is_of, fewer_rows, least_kept, trial, without_entries, without_entry, without_row, without_rows, yes_of};
 
@@ -22,7 +22,7 @@ pub(crate) fn least_kept<O: Oracle>(
     oracle: &mut O,
     log: &mut Log,
 ) -> Result<Kept, WorkError>
-    ensures { Follows O.asking oracle.old oracle.new log.old log.new result (least_kept last.now kept) }
+    ensures { Asks O.asking oracle log result (least_kept last.now kept) }
 {
     let fewer = without_rows(alloc, kept, Kind::AtMost, last, oracle, log)?;
     let least = without_rows(alloc, fewer, Kind::Equal, last, oracle, log)?;
@@ -38,8 +38,7 @@ fn without_rows<O: Oracle>(
     oracle: &mut O,
     log: &mut Log,
 ) -> Result<Kept, WorkError>
-    ensures { Follows O.asking oracle.old oracle.new log.old log.new result
-        (without_rows kind last.now kept) }
+    ensures { Asks O.asking oracle log result (without_rows kind last.now kept) }
 {
     let mut left = kept;
     let mut place = left.rows.len();
@@ -61,8 +60,7 @@ fn without_row<O: Oracle>(
     oracle: &mut O,
     log: &mut Log,
 ) -> Result<Kept, WorkError>
-    ensures { Follows O.asking oracle.old oracle.new log.old log.new result
-        (without_row kind last.now kept place) }
+    ensures { Asks O.asking oracle log result (without_row kind last.now kept place) }
 {
     if place >= kept.rows.len() {
         return Ok(kept);
@@ -95,7 +93,7 @@ fn trial_without_row<O: Oracle>(
     log: &mut Log,
 ) -> Result<Kept, WorkError>
     requires { place < length kept.rows }
-    ensures { Follows O.asking oracle.old oracle.new log.old log.new result
+    ensures { Asks O.asking oracle log result
         (trial last.now kept (remove kept.rows place) kept.entries) }
 {
     let question = question_without_row(alloc, &kept, place, last)?;
@@ -140,8 +138,7 @@ fn without_entries<O: Oracle>(
     oracle: &mut O,
     log: &mut Log,
 ) -> Result<Kept, WorkError>
-    ensures { Follows O.asking oracle.old oracle.new log.old log.new result
-        (without_entries last.now kept) }
+    ensures { Asks O.asking oracle log result (without_entries last.now kept) }
 {
     let mut left = kept;
     let mut place = left.entries.len();
@@ -162,8 +159,7 @@ fn without_entry<O: Oracle>(
     oracle: &mut O,
     log: &mut Log,
 ) -> Result<Kept, WorkError>
-    ensures { Follows O.asking oracle.old oracle.new log.old log.new result
-        (without_entry last.now kept place) }
+    ensures { Asks O.asking oracle log result (without_entry last.now kept place) }
 {
     if place >= kept.entries.len() {
         return Ok(kept);
@@ -181,7 +177,7 @@ fn trial_without_entry<O: Oracle>(
     log: &mut Log,
 ) -> Result<Kept, WorkError>
     requires { place < length kept.entries }
-    ensures { Follows O.asking oracle.old oracle.new log.old log.new result
+    ensures { Asks O.asking oracle log result
         (trial last.now kept kept.rows (remove kept.entries place)) }
 {
     let question = question_without_entry(alloc, &kept, place, last)?;
@@ -226,7 +222,7 @@ fn yes_to<O: Oracle>(
     oracle: &mut O,
     log: &mut Log,
 ) -> Result<Option<Items<i128>>, WorkError>
-    ensures { Follows O.asking oracle.old oracle.new log.old log.new result (yes_to question) }
+    ensures { Asks O.asking oracle log result (yes_to question) }
 {
     let answer = ask(alloc, &question, oracle, log)?;
     Ok(yes_of(answer))

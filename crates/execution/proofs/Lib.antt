@@ -1,6 +1,6 @@
 -- ---- the laws of `specs/Laws`
 pub mod Joining
-pub mod Determined
+pub mod Determinism
 pub mod Stack
 pub mod Straight
 pub mod Widths
@@ -8,7 +8,7 @@ pub mod Widths
 pub mod Examples
 -- ---- the chosen execution
 pub mod Stops
-pub mod Chosen
+pub mod ChosenExecutions
 -- ---- the interpreter
 pub mod Tasks
 pub mod Numbers

@@ -33,13 +33,13 @@ pub fn globals_stay()
 {}
 
 /// Simple statements run as they change the state one after another, and only so.
-pub fn straight_line()
+pub fn straight_lines_run()
     ensures forwards { ChangesRun }
     ensures backwards { RunsChange }
 {}
 
 /// The chosen execution of a well-formed program is one of its executions.
-pub fn chosen_steps()
+pub fn chosen_execution_steps()
     ensures begins { ChosenBegins }
     ensures steps { ChosenSteps }
     ensures goes_on { StepsCanRun }
@@ -47,14 +47,14 @@ pub fn chosen_steps()
 
 /// Where the chosen execution has no step, and that there is none at all unless a number is missing
 /// or too wide.
-pub fn chosen_stops()
+pub fn chosen_execution_stops()
     ensures causes { ChosenStops }
     ensures no_step { StopsHaveNoStep }
 {}
 
 /// `continue` in a `do` loop, a `break` in a nested loop, and a call that never returns, step by
 /// step.
-pub fn worked_examples()
+pub fn worked_examples_run()
     ensures continues { ContinueInDo }
     ensures breaks { BreakInNestedLoop }
     ensures never_returns { CallThatNeverReturns }

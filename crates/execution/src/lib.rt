@@ -9,7 +9,8 @@ mod outcome;
 
 pub use interpreter::{Activation, Machine, Repeat, Task};
 pub use laws::{
-    chosen_steps, chosen_stops, columns_determine_step, executions_join, failed_check_stops,
-    frames_below_stay, globals_stay, step_is_determined, straight_line, worked_examples,
+    chosen_execution_steps, chosen_execution_stops, columns_determine_step, executions_join,
+    failed_check_stops, frames_below_stay, globals_stay, step_is_determined, straight_lines_run,
+    worked_examples_run,
 };
 pub use outcome::{Event, Stop};

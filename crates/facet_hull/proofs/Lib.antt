@@ -26,3 +26,4 @@ pub mod Making
 -- ---- outcomes, and normals as polynomials
 mod Outcomes
 mod Linear
+pub mod NormalDirections

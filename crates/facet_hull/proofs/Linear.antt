@@ -86,7 +86,7 @@ with_column-fits n c ts fit h =
     ∙ ap (λ (r : Result ℤ TermError). r >>= λ z. Ok record { terms = with_term (c ∷ []) n ts; rest = z }) plus-zero
 
 -- the terms at columns behind one stand behind it
-coefficients-behind : (c : Col) (ns : List ℤ) (cs : List Col) → AllByRecursion (λ d. mono_cmp (c ∷ []) (d ∷ []) ≡ Less) cs → AllBehind c (coefficients ns cs)
+pub coefficients-behind : (c : Col) (ns : List ℤ) (cs : List Col) → AllByRecursion (λ d. mono_cmp (c ∷ []) (d ∷ []) ≡ Less) cs → AllBehind c (coefficients ns cs)
 coefficients-behind c [] cs h = tt
 coefficients-behind c (n ∷ ns) [] h = tt
 coefficients-behind c (n ∷ ns) (d ∷ cs) h = go (int_eq n (pos 0)) (coefficients-behind c ns cs h.1)
@@ -95,7 +95,7 @@ coefficients-behind c (n ∷ ns) (d ∷ cs) h = go (int_eq n (pos 0)) (coefficie
     go true rest = rest
     go false rest = (h.0, rest)
 
-variables-behind : (v : ℕ) (vs : List ℕ) → AllByRecursion (λ w. v < w) vs → AllByRecursion (λ d. mono_cmp (At v ∷ []) (d ∷ []) ≡ Less) (map (λ w. At w) vs)
+pub variables-behind : (v : ℕ) (vs : List ℕ) → AllByRecursion (λ w. v < w) vs → AllByRecursion (λ d. mono_cmp (At v ∷ []) (d ∷ []) ≡ Less) (map (λ w. At w) vs)
 variables-behind v [] h = tt
 variables-behind v (w ∷ vs) h = (ap (λ o. ordering_then o Equal) (sym (nat_cmp_is v w Less h.0)), variables-behind v vs h.1)
 

@@ -21,7 +21,7 @@ use Rattle.posing.specs.declared.note.Note.TheVariants as note
 use Rattle.polyhedra.specs.Changes.{changes_in, lost_changes, modified_variables}
 use Rattle.cones.specs.InBits.{Made}
 use Rattle.facet_hull.specs.Changes.{HasChange}
-use Rattle.facet_hull.specs.Hull.{AreExact}
+use Rattle.facet_hull.specs.Hull.{IsHull}
 use Rattle.facet_hull.specs.Images.{columns_of}
 use Rattle.facet_hull.specs.InBits as in_bits
 use Rattle.facet_hull.specs.declared.outcome.Facets.{Facets}
@@ -100,18 +100,18 @@ facets_of body =
 
 -- ---- what the outcome says of the changes
 
--- the polynomials are normals that are exact for the changes, where some case has a point
-pub record AreExactNormals (modified : List ℕ) (cases : List Change)
+-- the polynomials are the normals of the hull of the changes, where some case has a point
+pub record AreHullNormals (modified : List ℕ) (cases : List Change)
     (polys : List Polynomial) : Type 0 where
   pub forms : List (List ℤ)
   pub are : polys ≡ polynomials modified forms
-  pub exact : HasChange cases → AreExact (term_count cases) cases forms
+  pub hull : HasChange cases → IsHull (term_count cases) cases forms
 
--- normals are exact; of another outcome nothing is said
-abbrev pub IsExact : List ℕ → List Change → Facets → Type 0
-IsExact modified cases (Normals polys) = AreExactNormals modified cases polys
-IsExact modified cases Beyond = Unit {0}
-IsExact modified cases (Limit limit) = Unit {0}
+-- normals are those of the hull; of another outcome nothing is said
+abbrev pub IsOfHull : List ℕ → List Change → Facets → Type 0
+IsOfHull modified cases (Normals polys) = AreHullNormals modified cases polys
+IsOfHull modified cases Beyond = Unit {0}
+IsOfHull modified cases (Limit limit) = Unit {0}
 
 -- ---- words of private calls
 

@@ -14,6 +14,7 @@ use Rattle.cones.specs.declared.point.Point.{Point}
 use Rattle.linear_terms.specs.Polynomial.{Polynomial}
 use Rattle.transition_formula.specs.Transition.{Transition}
 use Rattle.polyhedra.specs.Changes.{modified_variables, moving}
+use Rattle.polyhedra.specs.Vocabulary.{IsDirectionOver}
 use Rattle.facet_hull.specs.Changes.{changes_at, HasChange, Rational, IsBound}
 use Rattle.facet_hull.specs.Hull.{AreExact, AreEquations, IsHull}
 use Rattle.facet_hull.specs.Images.{points_of, rays_of}
@@ -101,6 +102,11 @@ IsRelativelyComplete = (count : ℕ) (cases : List Change) (normals : List (List
 abbrev pub KnowsAllChanges : Type 0
 KnowsAllChanges = (body : Transition) (polys : List Polynomial)
     → facets_of body ≡ Normals polys → moving true body ≡ modified_variables true body
+
+-- the normals of an outcome are directions over the body's columns
+abbrev pub NormalsAreDirections : Type 0
+NormalsAreDirections = (body : Transition) (polys : List Polynomial)
+    → facets_of body ≡ Normals polys → AllByRecursion (IsDirectionOver body.to) polys
 
 -- what is made in 128 bits is what is defined, and where nothing is made a step leaves them
 abbrev pub StepsMakeNormals : Type 0

@@ -10,8 +10,8 @@ ghost use Rattle.posing.specs.Logs.{loss_notes};
 ghost use Rattle.polyhedra.specs.Changes.{change, changes_in, modified_variables};
 ghost use Rattle.cones.specs.Refusal.{cause};
 ghost use Rattle.facet_hull.specs.Changes.{HasChange};
-ghost use Rattle.facet_hull.specs.Facets.{hull_cases, most_hull_rows, is_case_beyond, is_beyond, first_limit, polynomials, facets_by, outcome, facets_of, IsExact, Rise, with_column};
-ghost use Rattle.facet_hull.specs.Hull.{AreExact};
+ghost use Rattle.facet_hull.specs.Facets.{hull_cases, most_hull_rows, is_case_beyond, is_beyond, first_limit, polynomials, facets_by, outcome, facets_of, IsOfHull, Rise, with_column};
+ghost use Rattle.facet_hull.specs.Hull.{IsHull};
 ghost use Rattle.facet_hull.specs.InBits as in_bits;
 
 use crate::hull::normals;
@@ -41,8 +41,8 @@ const MOST_COLUMNS: usize = 6;
 /// The exact hull of the changes of a body.
 pub fn facets(alloc: Global, body: &Formula) -> Result<Facets, AllocError>
     ensures value { IfOk result (λ made. made ≡ facets_of body.now) }
-    ensures exact { IfOk result
-        (λ made. IsExact (modified_variables true body.now) (hull_cases body.now) made) }
+    ensures hull { IfOk result
+        (λ made. IsOfHull (modified_variables true body.now) (hull_cases body.now) made) }
 {
     let movement = movement_of(alloc, true, body)?;
     let modified = movement.modified.as_slice();
@@ -61,7 +61,7 @@ fn outcome(
     requires counts { IsTrue (have_equally_many cases) }
     ensures value { IfOk result
         (λ made. made ≡ outcome modified.now (loss_notes lost.now) cases) }
-    ensures exact { IfOk result (λ made. IsExact modified.now cases made) }
+    ensures hull { IfOk result (λ made. IsOfHull modified.now cases made) }
 {
     if is_beyond(alloc, modified, cases.as_slice())? {
         return Ok(Facets::Beyond);
@@ -203,7 +203,7 @@ fn facets_by(alloc: Global, modified: &[u32], cases: Items<Change>) -> Result<Fa
     requires rise { Rise modified.now }
     requires counts { IsTrue (have_equally_many cases) }
     ensures value { IfOk result (λ made. made ≡ facets_by modified.now (in_bits.normals cases)) }
-    ensures exact { IfOk result (λ made. IsExact modified.now cases made) }
+    ensures hull { IfOk result (λ made. IsOfHull modified.now cases made) }
 {
     match normals_of(alloc, cases) {
         Ok(forms) => {
@@ -220,8 +220,8 @@ fn facets_by(alloc: Global, modified: &[u32], cases: Items<Change>) -> Result<Fa
 fn normals_of(alloc: Global, cases: Items<Change>) -> Result<Items<Items<i128>>, ConeStop>
     requires { IsTrue (have_equally_many cases) }
     ensures stated { Gives cause (λ made. made) result (in_bits.normals cases) }
-    ensures exact { IfOk result
-        (λ made. HasChange cases → AreExact (term_count cases) cases made) }
+    ensures hull { IfOk result
+        (λ made. HasChange cases → IsHull (term_count cases) cases made) }
 {
     match Stratum::new(cases, Items::new(alloc)) {
         Some(body) => normals(alloc, &body),

@@ -13,6 +13,7 @@ mod outcome;
 pub use finding::facets;
 pub use hull::normals;
 pub use laws::{
-    law_of_hull, law_of_images, law_of_normals, law_of_outcomes, law_of_turns, law_of_two_spots,
+    images_have_the_bounds, normals_are_exact, normals_are_the_hull, normals_bound_turns,
+    outcomes_know_changes, two_spots_are_a_tableau,
 };
 pub use outcome::Facets;

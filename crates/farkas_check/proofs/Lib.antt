@@ -25,7 +25,7 @@ pub mod Spreads
 pub mod Walks
 mod Listing
 mod Lookups
-mod Ordered
+mod OrderedTerms
 mod Sums
 mod OwnColumns
 mod Shortcuts

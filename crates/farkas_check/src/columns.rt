@@ -235,7 +235,7 @@ fn least_in_rows(rows: &[Row], last: &Option<Mono>, known: Option<Mono>) -> Opti
 }
 
 /// The same of terms in print order, whose first one after `last` is the least of those.
-#[tactic(auto, using(crate::proofs::Ordered::ordered))]
+#[tactic(auto, using(crate::proofs::OrderedTerms::ordered))]
 fn least_in_order(terms: &[(Mono, i128)], last: &Option<Mono>, known: Option<Mono>) -> Option<Mono>
     requires { IsCanonical terms.now }
     ensures { result ≡ least_after last.now known (keys_of terms.now) }

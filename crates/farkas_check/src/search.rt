@@ -6,7 +6,7 @@ use linear_terms::Mono;
 
 /// The coefficient of a monomial in terms that stand in print order; zero where it is not there.
 /// Its own term is the last one that does not stand behind it.
-#[tactic(auto, using(crate::proofs::Ordered::ordered))]
+#[tactic(auto, using(crate::proofs::OrderedTerms::ordered))]
 pub(crate) fn coefficient(terms: &[(Mono, i128)], mono: &Mono) -> i128
     requires { IsCanonical terms.now }
     ensures { result ≡ coefficient_in terms.now mono.now }

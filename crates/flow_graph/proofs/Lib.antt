@@ -10,7 +10,7 @@ pub mod Fates
 -- where the arcs of a body stand, and that each move of an activation is explained by one of them
 pub mod Each
 pub mod Places
-pub mod Explained
+pub mod EdgeSteps
 pub mod Live
 pub mod Activations
 pub mod Walking
@@ -44,4 +44,4 @@ pub mod Turning
 pub mod Settling
 pub mod Orders
 pub mod Filling
-pub mod Planned
+pub mod GroupOrders

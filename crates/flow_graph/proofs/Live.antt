@@ -11,7 +11,7 @@ use Rattle.flow_graph.specs.Walks.{CallMeaning, Stride, Walks}
 use Rattle.flow_graph.proofs.Each.{Each, Has, each_has, each_left, each_right}
 use Rattle.flow_graph.proofs.Moves.{Move, moves_of, skip_passes}
 use Rattle.flow_graph.proofs.Places.{At, Holds, Placed, PlacedIn, body_each, body_placed, parts, start}
-use Rattle.flow_graph.proofs.Explained.{Means, body_means, means_pending}
+use Rattle.flow_graph.proofs.EdgeSteps.{Means, body_means, means_pending}
 
 -- edges that do nothing lead from one node to another
 abbrev pub Skips : List Arc → ℕ → List ℕ → ℕ → Type 0

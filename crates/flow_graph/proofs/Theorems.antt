@@ -17,7 +17,7 @@ use Rattle.flow_graph.proofs.Each.{Each, each_get}
 use Rattle.flow_graph.proofs.Moves.{Move, Near, move, moves_of}
 use Rattle.flow_graph.proofs.Does.{Does, Shape, height, value_in}
 use Rattle.flow_graph.proofs.Places.{At, at_one, body_placed, start}
-use Rattle.flow_graph.proofs.Explained.{Checked, Explained, Taken, body_checked, body_explained}
+use Rattle.flow_graph.proofs.EdgeSteps.{Checked, Explained, Taken, body_checked, body_explained}
 use Rattle.flow_graph.proofs.Live.{LivesIn, body_lives, skips_walk}
 use Rattle.flow_graph.proofs.Activations.{Entry, active, does_length, does_returns, entry_wide, executed, first_items, first_state, last_value, width_in}
 use Rattle.flow_graph.proofs.Walking.{DoesTo, MeanTrees, Walk, does_walk, walk_does, walk_join}

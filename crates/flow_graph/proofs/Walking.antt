@@ -15,7 +15,7 @@ use Rattle.flow_graph.proofs.Each.{Each, Has, each_get}
 use Rattle.flow_graph.proofs.Moves.{Move, Near, Plain, Silent, begun, edged, move, moves_of, next_turn, passes_false, plain_length, silent_step}
 use Rattle.flow_graph.proofs.Does.{Calling, Does, IsCalling, Onward, Shape, Still, Through, does_fits, does_join, entry_fits, entry_of, exit_fits, exit_state, height, value_in}
 use Rattle.flow_graph.proofs.Places.{At, at_one}
-use Rattle.flow_graph.proofs.Explained.{Explained, Taken, body_explained}
+use Rattle.flow_graph.proofs.EdgeSteps.{Explained, Taken, body_explained}
 use Rattle.flow_graph.proofs.Live.{Skips, body_lives, skips_walk}
 use Rattle.flow_graph.proofs.Activations.{Entry, active, first_items, first_state, width_in}
 

@@ -12,7 +12,7 @@ use Rattle.flow_graph.specs.FlowGraph.{Arc, CheckPlace, body_of, flow_of, graph_
 use Rattle.flow_graph.specs.Plain.{arc_of, check_of, plain}
 use Rattle.flow_graph.proofs.Each.{each_get}
 use Rattle.flow_graph.proofs.Places.{At, all_items, items_at, items_in, parts}
-use Rattle.flow_graph.proofs.Explained.{Checked, Explained, body_checked, body_explained}
+use Rattle.flow_graph.proofs.EdgeSteps.{Checked, Explained, body_checked, body_explained}
 
 mutual
   items_length : (code : Code) (rest : List Item) (after : List (List Item)) → length (items_at code rest after) ≡ code_nodes code + 1 + length after

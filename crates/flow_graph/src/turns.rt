@@ -233,7 +233,7 @@ fn empty_waiting(alloc: Global, count: usize) -> Result<Vec<Items<usize>>, Graph
     Ok(made)
 }
 
-#[tactic(auto, using(crate::proofs::Planned::zeros_more))]
+#[tactic(auto, using(crate::proofs::GroupOrders::zeros_more))]
 fn zeros(alloc: Global, count: usize) -> Result<Vec<usize>, GraphError>
     ensures { IfOk result (λ made. made.items ≡ zeros count) }
 {

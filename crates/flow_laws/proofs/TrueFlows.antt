@@ -30,9 +30,10 @@ use Rattle.leaf_cases.specs.Conditions.{AreKnown, KnownCalls}
 use Rattle.leaf_cases.specs.Summaries.{AreMet, KnowsCallee}
 use Rattle.posing.specs.Posing.{Always, Done}
 use Rattle.posing.proofs.Paths.{always_any, always_bind, always_weaker}
-use Rattle.posing.proofs.Under.{passing-always}
+use Rattle.posing.proofs.UnderAnswers.{passing-always}
 use Rattle.recurrence.proofs.StarLaws.{always_both}
 use Rattle.vocabularies.specs.Ends.{full_of}
+use Rattle.vocabularies.specs.Procs.{IsProcOf}
 use Rattle.checked_tree.specs.Evaluation.{Made, cell_of, cells_of, evaluated_cells, evaluation}
 use Rattle.checked_tree.proofs.Cells.{cells-found, cells-one_each}
 use Rattle.proc_summary.specs.declared.stop.Flow.{Flow}
@@ -81,7 +82,7 @@ formula-none columns found.Zero e = refl
 formula-none columns found.One e = absurd (cc e)
 formula-none columns (found.Item f) e = absurd (cc e)
 
-module _ (program : Program) (proc : ℕ) (p : Proc) (known : List (Option Transition)) (is : slice_get program.procs proc ≡ Some p) (formed : IsWellFormed program) (are : AreKnown program known) where
+module _ (program : Program) (proc : ℕ) (p : Proc) (known : List (Option Transition)) (is : IsProcOf program proc p) (formed : IsWellFormed program) (are : AreKnown program known) where
   abbrev nodes : ℕ
   nodes = (own_graph p).nodes
 

@@ -1,6 +1,6 @@
 -- What every end of the stated flow and of the stated summary of a procedure is, whatever the
 -- answers are, as long as they are true and pass.
-use Rattle.std.specs.Prelude.{◌≡◌, ◌↔◌, ℕ, All, List, Option, None, Some, map, slice_get}
+use Rattle.std.specs.Prelude.{◌≡◌, ◌↔◌, ℕ, All, List, Option, None, map}
 use Rattle.path_expr.specs.Walks.{IsWalk}
 use Rattle.syntax_tree.specs.declared.program.Proc.{Proc}
 use Rattle.syntax_tree.specs.declared.program.Program.{Program}
@@ -9,6 +9,7 @@ use Rattle.transition_formula.specs.Transition.{Transition}
 use Rattle.leaf_cases.specs.Conditions.{AreKnown, IsKnown}
 use Rattle.leaf_cases.specs.Summaries.{AreMet, SummaryIsMet}
 use Rattle.posing.specs.Posing.{AlwaysPassing, Posing, ◌>>=◌}
+use Rattle.vocabularies.specs.Procs.{IsProcOf}
 use Rattle.proc_summary.specs.declared.stop.Flow.{Flow}
 use Rattle.proc_summary.specs.declared.stop.NodeFormula.{NodeFormula}
 use Rattle.proc_summary.specs.Claims.{FitsFlow, FlowHolds, KnowsCallees}
@@ -43,7 +44,7 @@ pub record IsTrueFlow (program : Program) (proc : ℕ) (p : Proc)
 abbrev pub FlowsAreTrue : Type 0
 FlowsAreTrue =
     (program : Program) (proc : ℕ) (p : Proc) (known : List (Option Transition))
-    → IsWellFormed program → slice_get program.procs proc ≡ Some p → AreKnown program known →
+    → IsWellFormed program → IsProcOf program proc p → AreKnown program known →
     AlwaysPassing (IsTrueFlow program proc p known) (flow_from (subject_of program p known))
 
 -- the summary of a procedure by the exit of its flow
@@ -61,5 +62,5 @@ pub record IsTrueSummary (program : Program) (proc : ℕ) (p : Proc)
 abbrev pub SummariesAreTrue : Type 0
 SummariesAreTrue =
     (program : Program) (proc : ℕ) (p : Proc) (known : List (Option Transition))
-    → IsWellFormed program → slice_get program.procs proc ≡ Some p → AreKnown program known →
+    → IsWellFormed program → IsProcOf program proc p → AreKnown program known →
     AlwaysPassing (IsTrueSummary program proc p known) (summary_by_flow program p known)

@@ -3,4 +3,4 @@
 
 mod laws;
 
-pub use laws::{law_of_flows, law_of_summaries};
+pub use laws::{flows_are_true, summaries_are_true};

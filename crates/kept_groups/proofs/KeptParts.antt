@@ -14,9 +14,9 @@ use Rattle.syntax_tree.specs.WellFormed.{IsWellFormed}
 use Rattle.transition_formula.specs.Transition.{Transition}
 use Rattle.posing.specs.Follows.{IsGood}
 use Rattle.posing.specs.Posing.{Done, ◌>>=◌, IsPassing, Path}
-use Rattle.posing.proofs.Composed.{kept_same}
+use Rattle.posing.proofs.ComposedCalls.{kept_same}
 use Rattle.posing.proofs.Paths.{path_into, path_map}
-use Rattle.posing.proofs.Under.{under-path}
+use Rattle.posing.proofs.UnderAnswers.{under-path}
 use Rattle.leaf_cases.specs.Conditions.{AreKnown}
 use Rattle.newton_rounds.specs.Alike.{AreAlikeGroups}
 use Rattle.newton_rounds.proofs.PairLists.{some-one, zipped-at}

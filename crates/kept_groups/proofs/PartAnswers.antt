@@ -28,9 +28,9 @@ use Rattle.posing.specs.declared.note.Note.{Note}
 use Rattle.posing.specs.Follows.{IsGood}
 use Rattle.posing.specs.Posing.{Posing, Done, Asked, ◌>>=◌, each, IsPassing, Path}
 use Rattle.posing.specs.Replay.{Keeps}
-use Rattle.posing.proofs.Composed.{KeptSteps, all_made, one_made, kept_each, kept_same}
+use Rattle.posing.proofs.ComposedCalls.{KeptSteps, all_made, one_made, kept_each, kept_same}
 use Rattle.posing.proofs.Paths.{path_bind, path_into, path_map}
-use Rattle.posing.proofs.Under.{under-path}
+use Rattle.posing.proofs.UnderAnswers.{under-path}
 use Rattle.newton_rounds.proofs.MemberTables.{table-leaves}
 use Rattle.analysis.specs.declared.found.Found.{Found}
 use Rattle.analysis.specs.declared.parts.GroupSummaries.{GroupSummaries}

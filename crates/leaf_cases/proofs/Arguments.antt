@@ -18,7 +18,7 @@ use Rattle.syntax_tree.specs.WellFormed.{columns_below, all_columns_below, opera
 use Rattle.execution.specs.Step.{values_of, with_value}
 use Rattle.transition_formula.specs.Meaning.{HoldsSome}
 use Rattle.transition_formula.specs.Transition.{fits, IsTransition}
-use Rattle.transition_formula.proofs.Covered.{both, both_true}
+use Rattle.transition_formula.proofs.ColumnTests.{both, both_true}
 use Rattle.transition_formula.proofs.Fitting.{from_fitting}
 use Rattle.leaf_cases.specs.declared.division.DivisionPart.TheVariants.{Quotient, Remainder}
 use Rattle.leaf_cases.specs.declared.step.Arithmetic.TheVariants.{Negate, Sum, Difference, Product}
@@ -31,7 +31,7 @@ use Rattle.leaf_cases.specs.Listed.{Listed, AreReady, beside, together}
 use Rattle.leaf_cases.specs.Listed as listed
 use Rattle.leaf_cases.specs.Steps.{operand, value_at, cases_of_step, cases_by, with_number}
 use Rattle.leaf_cases.proofs.Expressions.{ValueIs, expression-means}
-use Rattle.leaf_cases.proofs.Meant.{Means, means-as, means-together}
+use Rattle.leaf_cases.proofs.CaseMeanings.{Means, means-as, means-together}
 use Rattle.leaf_cases.proofs.Ready.{sit, are_ready, width_of, columns_below-more}
 use Rattle.leaf_cases.proofs.CaseColumns.{Sits, sits-more, sits-both}
 use Rattle.leaf_cases.proofs.Together.{Both}

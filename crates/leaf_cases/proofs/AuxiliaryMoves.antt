@@ -6,7 +6,7 @@ use Rattle.std.proofs.lemmas.List.FromFn.{get_or-range_with_len}
 use Rattle.linear_terms.specs.Polynomial.{Polynomial}
 use Rattle.linear_terms.specs.Auxiliaries.{occurs, renumbered_polynomial, is_numbered, KeepsOrder}
 use Rattle.transition_formula.specs.Transition.{every_column}
-use Rattle.transition_formula.proofs.Covered.{both_true}
+use Rattle.transition_formula.proofs.ColumnTests.{both_true}
 use Rattle.transition_formula.proofs.Loops.{or_left}
 use Rattle.transition_formula.proofs.Numbers.{polynomial_agrees, post_occurs-below}
 

@@ -17,7 +17,7 @@ use Rattle.linear_terms.proofs.Columns.{multiple_of-each, product_of_polys-each,
 use Rattle.transition_formula.specs.Composition.{row_of}
 use Rattle.transition_formula.specs.Renumbering.{renumbered_row}
 use Rattle.transition_formula.specs.Transition.{every_column, is_below}
-use Rattle.transition_formula.proofs.Covered.{both, both_true, columns_from_test, test_from_columns, more_columns, more_columns_of, all_more}
+use Rattle.transition_formula.proofs.ColumnTests.{both, both_true, columns_from_test, test_from_columns, more_columns, more_columns_of, all_more}
 use Rattle.transition_formula.proofs.Fitting.{below-true, true-below, is_below-more}
 use Rattle.leaf_cases.specs.declared.division.DivisionPart.{DivisionPart}
 use Rattle.leaf_cases.specs.declared.division.DivisionPart.TheVariants.{Quotient, Remainder}

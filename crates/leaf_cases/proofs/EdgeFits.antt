@@ -13,7 +13,7 @@ use Rattle.syntax_tree.specs.declared.core_expr.Core.{Core}
 use Rattle.syntax_tree.specs.Term.{Term, term_of}
 use Rattle.syntax_tree.specs.WellFormed.{columns_below, all_columns_below, joint_operators}
 use Rattle.transition_formula.specs.Transition.{Transition, every_column, is_below, fits, IsTransition, AreFew}
-use Rattle.transition_formula.proofs.Covered.{both, both_true, more_columns, all_more}
+use Rattle.transition_formula.proofs.ColumnTests.{both, both_true, more_columns, all_more}
 use Rattle.transition_formula.proofs.Fitting.{Fitting, fitting, from_fitting, identity-fits, below-true, true-below}
 use Rattle.leaf_cases.specs.Edges.{set_case, any_case, entering, cut, awaited_count, posts_with_value, leaving_case, arguments_of}
 use Rattle.leaf_cases.specs.Expression.{lists_of}

@@ -17,7 +17,7 @@ use Rattle.flow_graph.specs.Walks as walks
 use Rattle.transition_formula.specs.Composition.{losses_in_sequence}
 use Rattle.transition_formula.specs.Meaning.{numbers, HoldsSome, Holds}
 use Rattle.transition_formula.specs.Transition.{Transition, fits, IsTransition}
-use Rattle.transition_formula.proofs.Covered.{both}
+use Rattle.transition_formula.proofs.ColumnTests.{both}
 use Rattle.transition_formula.proofs.Fitting.{fitting}
 use Rattle.transition_formula.proofs.Meanings.{sequence-holds, sequence-held}
 use Rattle.transition_formula.proofs.Values.{column-value, none-of}

@@ -15,7 +15,7 @@ use Rattle.syntax_tree.specs.Term.{Term, Lit, Col, Unary, Binary}
 use Rattle.syntax_tree.specs.Value.{State, value_of, with_number, or_else, early_value, result_of, if_divisor, unary_value, truth_value, is_true}
 use Rattle.syntax_tree.specs.WellFormed.{columns_below}
 use Rattle.transition_formula.specs.Meaning.{numbers}
-use Rattle.transition_formula.proofs.Covered.{both}
+use Rattle.transition_formula.proofs.ColumnTests.{both}
 use Rattle.transition_formula.proofs.Values.{column-value}
 use Rattle.leaf_cases.specs.declared.division.DivisionPart.TheVariants.{Quotient, Remainder}
 use Rattle.leaf_cases.specs.declared.step.Arithmetic.TheVariants.{Negate, Sum, Difference, Product}
@@ -25,7 +25,7 @@ use Rattle.leaf_cases.specs.declared.step.Step.TheVariants.{Value, Divide, Test}
 use Rattle.leaf_cases.specs.Expression.{Lists, by, one_case, number_cases, of_number, of_test, sign_lists, calculation_lists, comparison_list, comparison, opposite, tests_of, operator_lists, lists_of}
 use Rattle.leaf_cases.specs.Listed.{Listed, together, either}
 use Rattle.leaf_cases.proofs.StepCases.{Stepped, Numbered, SomeGives, constant-value}
-use Rattle.leaf_cases.proofs.Meant.{Means, OneOf, Known, means-as, means-together, means-either, means-by, means-numbered, means-known}
+use Rattle.leaf_cases.proofs.CaseMeanings.{Means, OneOf, Known, means-as, means-together, means-either, means-by, means-numbered, means-known}
 use Rattle.leaf_cases.proofs.Ready.{sit}
 use Rattle.leaf_cases.proofs.StepClaims.{StepGives, first_of, second_of}
 use Rattle.leaf_cases.proofs.Together.{Both}

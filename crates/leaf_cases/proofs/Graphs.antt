@@ -20,7 +20,7 @@ use Rattle.flow_graph.specs.declared.parts.Graph.{Graph}
 use Rattle.flow_graph.specs.FlowGraph.{graph_of, Arc, arc, skip, unless, inside, statement_arcs, code_arcs, outermost, exit_of, flow_of, body_of, FlowGraph}
 use Rattle.flow_graph.specs.Plain.{arc_of, plain, statement_of_act}
 use Rattle.transition_formula.specs.Transition.{Transition}
-use Rattle.transition_formula.proofs.Covered.{both}
+use Rattle.transition_formula.proofs.ColumnTests.{both}
 use Rattle.transition_formula.proofs.Fitting.{true-below}
 use Rattle.leaf_cases.specs.Conditions.{AreKnown, IsActOf, columns_at, columns_in}
 

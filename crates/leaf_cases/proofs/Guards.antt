@@ -18,7 +18,7 @@ use Rattle.transition_formula.proofs.Meanings.{nothing-more}
 use Rattle.transition_formula.proofs.Values.{column-value}
 use Rattle.syntax_tree.specs.WellFormed.{columns_below, operators_of}
 use Rattle.transition_formula.specs.Transition.{Transition, every_column, every_column_of, is_below, fits, IsTransition}
-use Rattle.transition_formula.proofs.Covered.{both, both_true, more_columns, all_more, test_from_each}
+use Rattle.transition_formula.proofs.ColumnTests.{both, both_true, more_columns, all_more, test_from_each}
 use Rattle.transition_formula.proofs.Fitting.{Fitting, fitting, from_fitting, identity-fits, is_below-more, true-below}
 use Rattle.transition_formula.proofs.Loops.{test_at}
 use Rattle.leaf_cases.specs.Expression.{lists_of}

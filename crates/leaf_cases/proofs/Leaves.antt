@@ -20,7 +20,7 @@ use Rattle.transition_formula.specs.Composition.{sequence_of, sequence_of_cases,
 use Rattle.transition_formula.specs.Loss.{answer_of}
 use Rattle.transition_formula.specs.Meaning.{Holds}
 use Rattle.transition_formula.specs.Transition.{Transition, fits, IsTransition}
-use Rattle.transition_formula.proofs.Covered.{both}
+use Rattle.transition_formula.proofs.ColumnTests.{both}
 use Rattle.transition_formula.proofs.Fitting.{fitting}
 use Rattle.leaf_cases.specs.Conditions.{AreKnown, IsKnown, KnownCalls, exits_of}
 use Rattle.leaf_cases.specs.Edges.{leaf_of, losses_in_leaf, known_call, losses_in_known_call, call_of, call_sequence, entering, cut, awaited_count, leaving_case, set_of, set_case, any_of, arguments_of}

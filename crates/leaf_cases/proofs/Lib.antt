@@ -10,7 +10,7 @@ pub mod Graphs
 -- ---- what the cases of an expression mean
 pub mod Guards
 pub mod Expressions
-pub mod Meant
+pub mod CaseMeanings
 pub mod StepCases
 pub mod StepClaims
 pub mod StepsTell

@@ -15,7 +15,7 @@ use Rattle.syntax_tree.specs.declared.op.Sign.TheVariants.{Plus, Minus, Not}
 use Rattle.syntax_tree.specs.Term.{Term, Lit, Col, Unary, Binary}
 use Rattle.syntax_tree.specs.WellFormed.{columns_below, operators_of}
 use Rattle.transition_formula.specs.Transition.{every_column, every_column_of, is_below}
-use Rattle.transition_formula.proofs.Covered.{both, both_true, more_columns, more_columns_of, all_more, test_from_each}
+use Rattle.transition_formula.proofs.ColumnTests.{both, both_true, more_columns, more_columns_of, all_more, test_from_each}
 use Rattle.transition_formula.proofs.Fitting.{below-true, true-below}
 use Rattle.leaf_cases.specs.declared.division.DivisionPart.TheVariants.{Quotient, Remainder}
 use Rattle.leaf_cases.specs.declared.expression.Sought.{Sought}

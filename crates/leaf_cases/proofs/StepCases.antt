@@ -12,7 +12,7 @@ use Rattle.linear_terms.specs.Row.{RowHolds, RowsHold}
 use Rattle.linear_terms.specs.Value.{Valuation, value_of}
 use Rattle.transition_formula.specs.Loss.{losses_of}
 use Rattle.transition_formula.specs.Meaning.{numbers, HoldsAt, HoldsCase, HoldsSome}
-use Rattle.transition_formula.proofs.Telling.{lost-some}
+use Rattle.transition_formula.proofs.NotedErrors.{lost-some}
 use Rattle.transition_formula.proofs.Values.{column-value, none-of}
 use Rattle.transition_formula.proofs.Meanings.{some-either, some-left, some-right}
 use Rattle.leaf_cases.specs.declared.division.DivisionPart.{DivisionPart}

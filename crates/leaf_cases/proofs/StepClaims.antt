@@ -14,7 +14,7 @@ use Rattle.linear_terms.proofs.Values.{sum_of_polys-value, multiple_of-value, pr
 use Rattle.transition_formula.specs.Composition.{row_of}
 use Rattle.transition_formula.specs.Loss.{losses_of}
 use Rattle.transition_formula.specs.Meaning.{HoldsAt}
-use Rattle.transition_formula.proofs.Telling.{lost-some}
+use Rattle.transition_formula.proofs.NotedErrors.{lost-some}
 use Rattle.transition_formula.proofs.Values.{none-of}
 use Rattle.leaf_cases.specs.declared.division.DivisionPart.{DivisionPart}
 use Rattle.leaf_cases.specs.declared.division.DivisionPart.TheVariants.{Quotient, Remainder}

@@ -4,7 +4,7 @@ use Rattle.std.specs.List.{AllByRecursion}
 use Rattle.items.specs.Gives.{◌>>=◌}
 use Rattle.linear_terms.specs.Operations.{multiple_of, sum_of_polys, product_of_polys, difference_of_polys}
 use Rattle.linear_terms.specs.Polynomial.{Polynomial}
-use Rattle.transition_formula.proofs.Telling.{Tells, bind-tells, difference_of_polys-tells, multiple_of-tells, product_of_polys-tells, sum_of_polys-tells}
+use Rattle.transition_formula.proofs.NotedErrors.{Tells, bind-tells, difference_of_polys-tells, multiple_of-tells, product_of_polys-tells, sum_of_polys-tells}
 use Rattle.leaf_cases.specs.declared.division.Signs.{Signs}
 use Rattle.leaf_cases.specs.declared.step.Arithmetic.{Arithmetic}
 use Rattle.leaf_cases.specs.declared.step.Arithmetic.TheVariants.{Negate, Sum, Difference, Product}

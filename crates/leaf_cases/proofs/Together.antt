@@ -15,7 +15,7 @@ use Rattle.transition_formula.specs.Renumbering.{renumbered_row}
 use Rattle.transition_formula.specs.Transition.{is_below}
 use Rattle.transition_formula.proofs.Fitting.{below-true, true-below}
 use Rattle.transition_formula.proofs.Meanings.{not-below, some-either, some-left, some-right}
-use Rattle.transition_formula.proofs.Renumbered.{moved-rows, posts-moved, rows-moved}
+use Rattle.transition_formula.proofs.RenumberedCases.{moved-rows, posts-moved, rows-moved}
 use Rattle.transition_formula.proofs.Values.{rows-agree, posts-agree}
 use Rattle.syntax_tree.specs.Value.{State}
 use Rattle.leaf_cases.specs.Listed.{beside}

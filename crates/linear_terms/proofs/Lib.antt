@@ -11,7 +11,7 @@ pub mod Numbering
 -- ---- equality and order
 pub mod Equal
 pub mod Order
-pub mod Placed
+pub mod Placements
 -- ---- loops of the code
 pub mod Lookups
 pub mod Merge

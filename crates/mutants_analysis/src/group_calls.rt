@@ -1,6 +1,6 @@
 ghost use Rattle.std.specs.Prelude.{◌<◌, ◌≤◌, ◌↔◌, All, length, IfOk, IsTrue};
 ghost use Rattle.syntax_tree.specs.WellFormed.{IsWellFormed};
-ghost use Rattle.posing.specs.Follows.{Follows};
+ghost use Rattle.posing.specs.Follows.{Asks};
 ghost use Rattle.leaf_cases.specs.Conditions.{AreKnown};
 ghost use Rattle.leaf_cases.specs.Summaries.{AreMet};
 ghost use Rattle.newton_rounds.specs.Claims.{AreKnownMembers, AreMetMembers, TellsLinear};
@@ -40,7 +40,7 @@ pub fn close<O: Oracle>(
     requires few { length procs.now ≤ length program.now.procs }
     requires known { AreKnown program.now known.now }
     requires linear { TellsLinear program.now procs.now linear }
-    ensures follows { Follows O.asking oracle.old oracle.new log.old log.new result
+    ensures follows { Asks O.asking oracle log result
         (group_closure linear program.now procs.now known.now) }
     ensures known { IfOk result (AreKnownMembers program.now procs.now) }
     ensures met { AreMet program.now known.now → KnowsOthers program.now procs.now known.now

@@ -1,6 +1,6 @@
 ghost use Rattle.std.specs.Prelude.{◌≡◌, ◌-◌, List, length, IfOk, IsUtf8};
 ghost use Rattle.syntax_tree.specs.WellFormed.{IsWellFormed};
-ghost use Rattle.posing.specs.Follows.{Follows};
+ghost use Rattle.posing.specs.Follows.{Asks};
 ghost use Rattle.report.specs.Claims.{ClaimsAreMet, PointsMeetRows, ReportCovers};
 ghost use Rattle.report.specs.Text.{proved_count, text_of};
 ghost use Rattle.analysis.specs.declared.planning.Planned.{Planned as PlannedGroup};
@@ -35,8 +35,7 @@ pub fn analyse<O: Oracle>(
 ) -> Result<Report, WorkError>
     requires formed { IsWellFormed program.now }
     ensures follows { (plan : List PlannedGroup) → IsPlan program.now plan
-        → Follows O.asking oracle.old oracle.new log.old log.new result
-        (report_by_plan program.now places.now plan) }
+        → Asks O.asking oracle log result (report_by_plan program.now places.now plan) }
     ensures planned { IfOk result (λ report. (plan : List PlannedGroup) × IsPlan program.now plan) }
     ensures kept { log.new.notes ≡ log.old.notes }
     ensures met { IfOk result (ClaimsAreMet program.now) }

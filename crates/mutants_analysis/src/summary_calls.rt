@@ -1,11 +1,12 @@
-ghost use Rattle.std.specs.Prelude.{◌≡◌, ◌<◌, Some, length, slice_get, IfOk};
+ghost use Rattle.std.specs.Prelude.{◌≡◌, ◌<◌, length, IfOk};
 ghost use Rattle.syntax_tree.specs.WellFormed.{IsWellFormed};
 ghost use Rattle.syntax_tree.specs.declared.program.Proc.{Proc as Procedure};
 ghost use Rattle.leaf_cases.specs.Conditions.{AreKnown, IsKnown};
 ghost use Rattle.leaf_cases.specs.Summaries.{AreMet, SummaryIsMet};
-ghost use Rattle.posing.specs.Follows.{Follows};
+ghost use Rattle.posing.specs.Follows.{Asks};
 ghost use Rattle.vocabularies.specs.Ends.{entry_of};
 ghost use Rattle.vocabularies.specs.Harvest.{harvest_of};
+ghost use Rattle.vocabularies.specs.Procs.{IsProcOf};
 ghost use Rattle.proc_summary.specs.Claims.{FitsFlow, FlowHolds, KnowsCallees};
 ghost use Rattle.proc_summary.specs.Flow.{flow_from};
 ghost use Rattle.proc_summary.specs.Subject.{subject_of};
@@ -23,7 +24,7 @@ use transition_formula::Formula;
 /// The first 32 different linear terms that a procedure compares.
 pub fn harvest(alloc: Global, program: &Program, proc: u32) -> Result<Items<Poly>, AllocError>
     requires { proc < length program.now.procs }
-    ensures { (p : Procedure) → slice_get program.now.procs proc ≡ Some p
+    ensures { (p : Procedure) → IsProcOf program.now proc p
         → IfOk result (λ terms. terms ≡ harvest_of p.body) }
 {
     vocabularies::harvest(alloc, program, proc)
@@ -33,7 +34,7 @@ pub fn harvest(alloc: Global, program: &Program, proc: u32) -> Result<Items<Poly
 pub fn entry(alloc: Global, program: &Program, proc: u32) -> Result<Vocabulary, AllocError>
     requires formed { IsWellFormed program.now }
     requires there { proc < length program.now.procs }
-    ensures { (p : Procedure) → slice_get program.now.procs proc ≡ Some p
+    ensures { (p : Procedure) → IsProcOf program.now proc p
         → IfOk result (λ voc. voc ≡ entry_of program.now p) }
 {
     vocabularies::entry(alloc, program, proc)
@@ -51,12 +52,11 @@ pub fn flow<O: Oracle>(
     requires formed { IsWellFormed program.now }
     requires procedure { proc < length program.now.procs }
     requires known { AreKnown program.now known.now }
-    requires callees { (p : Procedure) → slice_get program.now.procs proc ≡ Some p
+    requires callees { (p : Procedure) → IsProcOf program.now proc p
         → KnowsCallees p known.now }
-    ensures follows { (p : Procedure) → slice_get program.now.procs proc ≡ Some p
-        → Follows O.asking oracle.old oracle.new log.old log.new result
-        (flow_from (subject_of program.now p known.now)) }
-    ensures fits { (p : Procedure) → slice_get program.now.procs proc ≡ Some p
+    ensures follows { (p : Procedure) → IsProcOf program.now proc p
+        → Asks O.asking oracle log result (flow_from (subject_of program.now p known.now)) }
+    ensures fits { (p : Procedure) → IsProcOf program.now proc p
         → IfOk result (FitsFlow program.now p) }
     ensures holds { AreMet program.now known.now → IfOk result (FlowHolds program.now proc) }
 {
@@ -74,12 +74,12 @@ pub fn project<O: Oracle>(
 ) -> Result<Formula, WorkError>
     requires formed { IsWellFormed program.now }
     requires procedure { proc < length program.now.procs }
-    requires flow { (p : Procedure) → slice_get program.now.procs proc ≡ Some p
+    requires flow { (p : Procedure) → IsProcOf program.now proc p
         → FitsFlow program.now p flow.now }
-    ensures follows { (p : Procedure) → slice_get program.now.procs proc ≡ Some p
-        → Follows O.asking oracle.old oracle.new log.old log.new result
+    ensures follows { (p : Procedure) → IsProcOf program.now proc p
+        → Asks O.asking oracle log result
         (summary_from (ends_of program.now p) flow.now.exit.formula) }
-    ensures known { (p : Procedure) → slice_get program.now.procs proc ≡ Some p
+    ensures known { (p : Procedure) → IsProcOf program.now proc p
         → IfOk result (IsKnown program.now p) }
     ensures met { FlowHolds program.now proc flow.now
         → IfOk result (SummaryIsMet program.now proc) }

@@ -5,7 +5,7 @@ ghost use Rattle.path_expr.specs.Holds.{AreCells};
 ghost use Rattle.path_expr.specs.Operations.{operations};
 ghost use Rattle.path_expr.specs.Runs.{Runs, error_of};
 ghost use Rattle.path_expr.specs.Walks.{IsGraph};
-ghost use Rattle.posing.specs.Follows.{Follows};
+ghost use Rattle.posing.specs.Follows.{Asks};
 ghost use Rattle.checked_tree.specs.Evaluation.{evaluated_cells};
 ghost use Rattle.checked_tree.specs.Graph.{graph_of};
 ghost use Rattle.checked_tree.specs.Grown.{AreGrown, formulas_of, result_map, trees_of};
@@ -56,7 +56,7 @@ pub fn evaluate<O: Oracle>(
     requires graph { IsEvaluated (graph_of links.now leaves.now nodes.now) source }
     requires few_links { length links.now < 2 ^ 32 }
     requires few_nodes { length nodes.now < 2 ^ 32 }
-    ensures follows { Follows O.asking oracle.old oracle.new log.old log.new
+    ensures follows { Asks O.asking oracle log
         (result_map formulas_of result)
         (evaluated_cells (graph_of links.now leaves.now nodes.now) source) }
     ensures grown { IfOk result

@@ -4,8 +4,9 @@ ghost use Rattle.syntax_tree.specs.declared.program.Proc.{Proc as Procedure};
 ghost use Rattle.execution.specs.Execution.{Fails};
 ghost use Rattle.flow_graph.specs.FlowGraph.{CheckPlace};
 ghost use Rattle.transition_formula.specs.Transition.{AreSolvable};
-ghost use Rattle.posing.specs.Follows.{Follows};
+ghost use Rattle.posing.specs.Follows.{Asks};
 ghost use Rattle.vocabularies.specs.Ends.{entry_width};
+ghost use Rattle.vocabularies.specs.Procs.{IsProcOf};
 ghost use Rattle.proc_summary.specs.declared.stop.NodeFormula.{NodeFormula};
 ghost use Rattle.proc_summary.specs.Claims.{FitsFlow, FlowHolds};
 ghost use Rattle.proc_summary.specs.Subject.{own_graph};
@@ -36,8 +37,7 @@ pub fn entries<O: Oracle>(
 ) -> Result<Items<Option<Formula>>, WorkError>
     requires formed { IsWellFormed program.now }
     requires flows { AreFlows program.now flows.now }
-    ensures follows { Follows O.asking oracle.old oracle.new log.old log.new result
-        (entries_from program.now flows.now) }
+    ensures follows { Asks O.asking oracle log result (entries_from program.now flows.now) }
     ensures fits { IfOk result (AreEntries program.now) }
     ensures holds { FlowsHold program.now flows.now → IfOk result (EntriesHold program.now) }
 {
@@ -58,21 +58,21 @@ pub fn verdict<O: Oracle>(
     requires formed { IsWellFormed program.now }
     requires procedure { proc < length program.now.procs }
     requires assertion { check < length flow.now.checks }
-    requires flow { (p : Procedure) → slice_get program.now.procs proc ≡ Some p
+    requires flow { (p : Procedure) → IsProcOf program.now proc p
         → FitsFlow program.now p flow.now }
-    requires entry { (p : Procedure) → slice_get program.now.procs proc ≡ Some p
+    requires entry { (p : Procedure) → IsProcOf program.now proc p
         → IsEntryIf (entry_width program.now p) entry.now }
     ensures follows { (p : Procedure) (at : CheckPlace) (stop : NodeFormula)
-        → slice_get program.now.procs proc ≡ Some p → slice_get (own_graph p).checks check ≡ Some at
+        → IsProcOf program.now proc p → slice_get (own_graph p).checks check ≡ Some at
         → slice_get flow.now.checks check ≡ Some stop
-        → Follows O.asking oracle.old oracle.new log.old log.new result
+        → Asks O.asking oracle log result
         (verdict_of (place_of program.now p) at.cond entry.now stop.formula) }
-    ensures sound { (p : Procedure) (at : CheckPlace) → slice_get program.now.procs proc ≡ Some p
+    ensures sound { (p : Procedure) (at : CheckPlace) → IsProcOf program.now proc p
         → slice_get (own_graph p).checks check ≡ Some at → EntryHolds program.now proc entry.now
         → FlowHolds program.now proc flow.now → result ≡ Ok Proved → Fails program.now at.number
         → ⊥ }
     ensures refuted { IfOk result IsRefuted }
-    ensures fits { (p : Procedure) → slice_get program.now.procs proc ≡ Some p
+    ensures fits { (p : Procedure) → IsProcOf program.now proc p
         → IfOk result (FitsVerdict (length (shown_columns_of program.now p))) }
 {
     context::verdict(alloc, program, proc, check, entry, flow, oracle, log)
@@ -87,8 +87,7 @@ pub fn verdict_on_cases<O: Oracle>(
     log: &mut Log,
 ) -> Result<Verdict, WorkError>
     requires { AreSolvable cases.now }
-    ensures follows { Follows O.asking oracle.old oracle.new log.old log.new result
-        (verdict_on_cases_from rule cases.now) }
+    ensures follows { Asks O.asking oracle log result (verdict_on_cases_from rule cases.now) }
     ensures known { IfOk result (IsVerdictOnAll cases.now) }
 {
     context::verdict_on_cases(alloc, rule, cases, oracle, log)

@@ -3,7 +3,7 @@ ghost use Rattle.polyhedra.specs.Laws.{IsBetween, IsSmall, IsWider};
 ghost use Rattle.polyhedra.specs.Settle.{settled_formula};
 ghost use Rattle.polyhedra.specs.Squash.{fitted_formula};
 ghost use Rattle.polyhedra.specs.Thin.{thinned_case};
-ghost use Rattle.posing.specs.Follows.{Follows};
+ghost use Rattle.posing.specs.Follows.{Asks};
 ghost use Rattle.transition_formula.specs.Meaning.{Covers};
 ghost use Rattle.transition_formula.specs.Transition.{AreSolvable};
 
@@ -21,8 +21,7 @@ pub fn settle<O: Oracle>(
     log: &mut Log,
 ) -> Result<Formula, WorkError>
     requires { AreSolvable f.now.cases }
-    ensures follows { Follows O.asking oracle.old oracle.new log.old log.new result
-        (settled_formula f.now) }
+    ensures follows { Asks O.asking oracle log result (settled_formula f.now) }
     ensures covers { IfOk result (λ g. Covers g f.now) }
 {
     polyhedra::settle(alloc, f, oracle, log)
@@ -35,8 +34,7 @@ pub fn thin<O: Oracle>(
     oracle: &mut O,
     log: &mut Log,
 ) -> Result<Case, WorkError>
-    ensures follows { Follows O.asking oracle.old oracle.new log.old log.new result
-        (thinned_case case.now) }
+    ensures follows { Asks O.asking oracle log result (thinned_case case.now) }
     ensures covers { IfOk result (IsWider case.now) }
 {
     polyhedra::thin(alloc, case, oracle, log)
@@ -52,8 +50,7 @@ pub fn fit<O: Oracle>(
     log: &mut Log,
 ) -> Result<Formula, WorkError>
     requires { IsBetween f.now from.now to.now }
-    ensures follows { Follows O.asking oracle.old oracle.new log.old log.new result
-        (fitted_formula f.now from.now to.now) }
+    ensures follows { Asks O.asking oracle log result (fitted_formula f.now from.now to.now) }
     ensures covers { IfOk result (λ g. Covers g f.now) }
     ensures small { IfOk result (IsSmall f.now) }
 {

@@ -1,5 +1,5 @@
 ghost use Rattle.std.specs.Prelude.{IfOk};
-ghost use Rattle.posing.specs.Follows.{Follows};
+ghost use Rattle.posing.specs.Follows.{Asks};
 ghost use Rattle.recurrence.specs.Law.{IsStar, IsStarred};
 ghost use Rattle.recurrence.specs.Star.{star_of};
 ghost use Rattle.transition_formula.specs.Meaning.{HoldsOfChains};
@@ -18,8 +18,7 @@ pub fn star<O: Oracle>(
     log: &mut Log,
 ) -> Result<Formula, WorkError>
     requires { IsStarred body.now voc.now }
-    ensures follows { Follows O.asking oracle.old oracle.new log.old log.new result
-        (star_of body.now voc.now) }
+    ensures follows { Asks O.asking oracle log result (star_of body.now voc.now) }
     ensures holds { IfOk result (HoldsOfChains body.now) }
     ensures fits { IfOk result (IsStar body.now.to) }
 {

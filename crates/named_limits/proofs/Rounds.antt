@@ -21,7 +21,7 @@ use Rattle.posing.specs.declared.note.Witness.{Witness}
 use Rattle.posing.specs.declared.note.Witness.TheVariants as witness
 use Rattle.posing.specs.Posing.{Done, ◌>>=◌, each}
 use Rattle.path_expr.specs.declared.cell.Cell.{Cell}
-use Rattle.phases.specs.Rules.{has_phases}
+use Rattle.phases.specs.Rules.{IsPlainRule}
 use Rattle.vocabularies.specs.Ends.{pair_of}
 use Rattle.proc_summary.specs.Subject.{Subject, graph_by, subject_of}
 use Rattle.newton_rounds.specs.Candidates.{before_rounds, candidate_by, candidate_of, drop_notes_by, drop_notes_in, dropped_notes, end_of_round, findings_in, found_left, kept_row, last_round, limit_notes, most_rounds, no_judgements, outcome, outcome_by, refutation, round, unfolded_formula, with_answer, with_case, with_judged, with_point, with_round}
@@ -32,7 +32,7 @@ use Rattle.newton_rounds.specs.Pairs.{PairEnds, Stretch}
 use Rattle.named_limits.specs.Limits.{AreSame, count, limit_by, limit_given, limit_told, limits_told}
 use Rattle.named_limits.proofs.Balance.{Balances, TellsAll, balances-asked, balances-bind, balances-done, balances-each, balances-frame, balances-noted, balances-quiet, count-append, no_limit, same-of, same-refl, tells-bind, tells-done, tells-each, tells-frame, tells-noted, tells-then, tells-until}
 use Rattle.named_limits.proofs.FittingLimits.{bounded-tells, losses-tell_none}
-use Rattle.named_limits.proofs.Stars.{HasNoPhases, HaveNoPhases, cells-tell, evaluated-tells, nodes-plain, settled_and_fitted-tells, subject-plain, summary-tells}
+use Rattle.named_limits.proofs.Stars.{HasPlainRule, HavePlainRules, cells-tell, evaluated-tells, nodes-plain, settled_and_fitted-tells, subject-plain, summary-tells}
 
 -- types that their crate keeps to itself
 abbrev Domain : {A B : Type 0} → (A → B) → Type 0
@@ -55,23 +55,23 @@ RoundEnd = Codomain end_of_round
 
 -- ---- closures
 
-sides-tell : (s : Subject) (starts : List (Cell Transition)) (call : GroupCall) → HaveNoPhases (graph_by s) → TellsAll (sides_from s starts call)
+sides-tell : (s : Subject) (starts : List (Cell Transition)) (call : GroupCall) → HavePlainRules (graph_by s) → TellsAll (sides_from s starts call)
 unfolding sides_from
-sides-tell s starts call no_phases = tells-then _ (cells-tell s call.to no_phases)
+sides-tell s starts call is_plain = tells-then _ (cells-tell s call.to is_plain)
 
-with_sides-tells : (s : Subject) (starts : List (Cell Transition)) (made : _) (call : GroupCall) → HaveNoPhases (graph_by s) → TellsAll (with_sides s starts made call)
+with_sides-tells : (s : Subject) (starts : List (Cell Transition)) (made : _) (call : GroupCall) → HavePlainRules (graph_by s) → TellsAll (with_sides s starts made call)
 unfolding with_sides
-with_sides-tells s starts made call no_phases = tells-then _ (sides-tell s starts call no_phases)
+with_sides-tells s starts made call is_plain = tells-then _ (sides-tell s starts call is_plain)
 
-with_member-tells : (program : Program) (procs : List ℕ) (known : List (Option Transition)) (made : _) (member : ℕ × Proc) → has_phases program.rule ≡ false → TellsAll (with_member program procs known made member)
+with_member-tells : (program : Program) (procs : List ℕ) (known : List (Option Transition)) (made : _) (member : ℕ × Proc) → IsPlainRule program.rule → TellsAll (with_member program procs known made member)
 unfolding with_member
-with_member-tells program procs known made member no_phases =
+with_member-tells program procs known made member is_plain =
     let s = subject_of program member.1 known in
-    let plain = subject-plain program member.1 known no_phases in tells-bind (cells-tell s 0 plain) (λ starts. tells-each _ made _ (λ made call. with_sides-tells s starts made call plain))
+    let plain = subject-plain program member.1 known is_plain in tells-bind (cells-tell s 0 plain) (λ starts. tells-each _ made _ (λ made call. with_sides-tells s starts made call plain))
 
-sides_of-tells : (program : Program) (procs : List ℕ) (known : List (Option Transition)) → has_phases program.rule ≡ false → TellsAll (sides_of program procs known)
+sides_of-tells : (program : Program) (procs : List ℕ) (known : List (Option Transition)) → IsPlainRule program.rule → TellsAll (sides_of program procs known)
 unfolding sides_of
-sides_of-tells program procs known no_phases = tells-each _ [] _ (λ made member. with_member-tells program procs known made member no_phases)
+sides_of-tells program procs known is_plain = tells-each _ [] _ (λ made member. with_member-tells program procs known made member is_plain)
 
 closed_by-tells : (members : List PairEnds) (bases : List Transition) (place : ℕ) (cells : List (Cell Transition)) → TellsAll (closure_at members bases place cells)
 unfolding closure_at
@@ -79,12 +79,12 @@ closed_by-tells members bases place cells = tells-noted (losses-tell_none _) (se
 
 -- the vocabularies of a group's pairs
 abbrev ArePlain : List PairEnds → Type 0
-ArePlain members = AllByRecursion HasNoPhases (map (λ (member : PairEnds). member.pair) members)
+ArePlain members = AllByRecursion HasPlainRule (map (λ (member : PairEnds). member.pair) members)
 
-pairs-plain : (program : Program) (procs : List Proc) → has_phases program.rule ≡ false → ArePlain (map (pair_ends program) procs)
+pairs-plain : (program : Program) (procs : List Proc) → IsPlainRule program.rule → ArePlain (map (pair_ends program) procs)
 unfolding pair_of
-pairs-plain program [] no_phases = tt
-pairs-plain program (p ∷ procs) no_phases = (no_phases, pairs-plain program procs no_phases)
+pairs-plain program [] is_plain = tt
+pairs-plain program (p ∷ procs) is_plain = (is_plain, pairs-plain program procs is_plain)
 
 closed_member-tells : (members : List PairEnds) (stretches : List Stretch) (bases : List Transition) (place : ℕ) → ArePlain members → TellsAll (closed_member members stretches bases place)
 unfolding closed_member
@@ -94,23 +94,23 @@ with_closed-tells : (members : List PairEnds) (stretches : List Stretch) (bases 
 unfolding with_closed
 with_closed-tells members stretches bases made place plain = tells-then _ (closed_member-tells members stretches bases place plain)
 
-closure-tells : (program : Program) (procs : List ℕ) (known : List (Option Transition)) (bases table : List Transition) → has_phases program.rule ≡ false → TellsAll (closure_of program procs known bases table)
+closure-tells : (program : Program) (procs : List ℕ) (known : List (Option Transition)) (bases table : List Transition) → IsPlainRule program.rule → TellsAll (closure_of program procs known bases table)
 unfolding closure_of
-closure-tells program procs known bases table no_phases =
-    tells-bind (sides_of-tells program procs _ no_phases)
-    (λ sides. tells-each _ [] _ (λ made place. with_closed-tells (ends_of_members program procs) _ bases made place (pairs-plain program (members_of program procs) no_phases)))
+closure-tells program procs known bases table is_plain =
+    tells-bind (sides_of-tells program procs _ is_plain)
+    (λ sides. tells-each _ [] _ (λ made place. with_closed-tells (ends_of_members program procs) _ bases made place (pairs-plain program (members_of program procs) is_plain)))
 
-base-tells : (program : Program) (known : List (Option Transition)) (p : Proc) → has_phases program.rule ≡ false → TellsAll (base_of program known p)
+base-tells : (program : Program) (known : List (Option Transition)) (p : Proc) → IsPlainRule program.rule → TellsAll (base_of program known p)
 unfolding base_of
-base-tells program known p no_phases = tells-bind (cells-tell (subject_of program p known) 0 (subject-plain program p known no_phases)) (λ cells. tells-noted (losses-tell_none _) (tells-done _))
+base-tells program known p is_plain = tells-bind (cells-tell (subject_of program p known) 0 (subject-plain program p known is_plain)) (λ cells. tells-noted (losses-tell_none _) (tells-done _))
 
-with_base-tells : (program : Program) (known : List (Option Transition)) (made : List Transition) (p : Proc) → has_phases program.rule ≡ false → TellsAll (with_base program known made p)
+with_base-tells : (program : Program) (known : List (Option Transition)) (made : List Transition) (p : Proc) → IsPlainRule program.rule → TellsAll (with_base program known made p)
 unfolding with_base
-with_base-tells program known made p no_phases = tells-then _ (base-tells program known p no_phases)
+with_base-tells program known made p is_plain = tells-then _ (base-tells program known p is_plain)
 
-bases-tell : (program : Program) (procs : List ℕ) (known : List (Option Transition)) → has_phases program.rule ≡ false → TellsAll (bases_of program procs known)
+bases-tell : (program : Program) (procs : List ℕ) (known : List (Option Transition)) → IsPlainRule program.rule → TellsAll (bases_of program procs known)
 unfolding bases_of
-bases-tell program procs known no_phases = tells-each _ [] _ (λ made p. with_base-tells program _ made p no_phases)
+bases-tell program procs known is_plain = tells-each _ [] _ (λ made p. with_base-tells program _ made p is_plain)
 
 -- ---- candidates
 
@@ -212,15 +212,15 @@ with_judged-balances f made row =
     (balances-frame (limits_of_member made) limit_if (refutation f row) (refuted-balances f row))
     (λ by. balances-done (limits_of_member made ++ limit_if by) limits_of_member _ (same-of (one-more (λ j. limit_if j.by) made _ (append-nil (limit_if by)))))
 
-unfolded-tells : (program : Program) (known : List (Option Transition)) (p : Proc) → has_phases program.rule ≡ false → TellsAll (unfolded_formula program known p)
+unfolded-tells : (program : Program) (known : List (Option Transition)) (p : Proc) → IsPlainRule program.rule → TellsAll (unfolded_formula program known p)
 unfolding unfolded_formula
-unfolded-tells program known p no_phases = tells-bind (cells-tell (subject_of program p known) 0 (subject-plain program p known no_phases)) (λ cells. summary-tells _ _)
+unfolded-tells program known p is_plain = tells-bind (cells-tell (subject_of program p known) 0 (subject-plain program p known is_plain)) (λ cells. summary-tells _ _)
 
 with_round-balances : (program : Program) (known : List (Option Transition)) (made : Judgements) (member : Proc × List Row)
-    → has_phases program.rule ≡ false → Balances (limits_of made) limits_of (with_round program known made member)
+    → IsPlainRule program.rule → Balances (limits_of made) limits_of (with_round program known made member)
 unfolding with_round
-with_round-balances program known made member no_phases =
-    balances-bind (limits_of made) (λ f. limits_of made) limits_of (unfolded_formula program known member.0) _ (tells-frame (limits_of made) (unfolded-tells program known member.0 no_phases))
+with_round-balances program known made member is_plain =
+    balances-bind (limits_of made) (λ f. limits_of made) limits_of (unfolded_formula program known member.0) _ (tells-frame (limits_of made) (unfolded-tells program known member.0 is_plain))
     (λ f. balances-bind (limits_of made) (λ judged. limits_of made ++ limits_of_member judged) limits_of (each (with_judged f) [] member.1) _
     (balances-frame (limits_of made) limits_of_member (each (with_judged f) [] member.1)
     (balances-each limits_of_member (with_judged f) [] member.1 (λ made row. with_judged-balances f made row)))
@@ -243,34 +243,34 @@ all-told place (own ∷ judged) =
     flat_map-append limit_told (drop_notes_in (place, own)) (flat_map drop_notes_in (with_places_from (place + 1) judged))
     ∙ (λ i. member-told place own i ++ all-told (place + 1) judged i)
 
-pub round-tells : (program : Program) (procs : List ℕ) (known : List (Option Transition)) (candidates : List (List Row)) → has_phases program.rule ≡ false → TellsAll (round program procs known candidates)
+pub round-tells : (program : Program) (procs : List ℕ) (known : List (Option Transition)) (candidates : List (List Row)) → IsPlainRule program.rule → TellsAll (round program procs known candidates)
 unfolding round
-round-tells program procs known candidates no_phases =
+round-tells program procs known candidates is_plain =
     record {
-      balances = balances-bind [] limits_of no_limit _ _ (balances-each limits_of _ no_judgements _ (λ made member. with_round-balances program _ made member no_phases))
+      balances = balances-bind [] limits_of no_limit _ _ (balances-each limits_of _ no_judgements _ (λ made member. with_round-balances program _ made member is_plain))
           (λ judged. balances-noted (limits_of judged) [] no_limit (dropped_notes judged.rows) (Done _)
           (λ test. let told = ap (count test) (all-told 0 judged.rows) in omega (arith, told))
           (balances-done [] no_limit _ (same-refl [])));
     }
 
-last_round-tells : (program : Program) (procs : List ℕ) (known : List (Option Transition)) (candidates : List (List Row)) → has_phases program.rule ≡ false → TellsAll (last_round program procs known candidates)
+last_round-tells : (program : Program) (procs : List ℕ) (known : List (Option Transition)) (candidates : List (List Row)) → IsPlainRule program.rule → TellsAll (last_round program procs known candidates)
 unfolding last_round
-last_round-tells program procs known candidates no_phases =
-    tells-until (λ (end : RoundEnd). round program procs known end.candidates) (most_rounds candidates) (before_rounds candidates) (λ end. round-tells program procs known end.candidates no_phases)
+last_round-tells program procs known candidates is_plain =
+    tells-until (λ (end : RoundEnd). round program procs known end.candidates) (most_rounds candidates) (before_rounds candidates) (λ end. round-tells program procs known end.candidates is_plain)
 
 -- ---- the whole
 
-rounds-tell : (program : Program) (procs : List ℕ) (known : List (Option Transition)) (bases : List Transition) → has_phases program.rule ≡ false → TellsAll (closure_by_rounds program procs known bases)
+rounds-tell : (program : Program) (procs : List ℕ) (known : List (Option Transition)) (bases : List Transition) → IsPlainRule program.rule → TellsAll (closure_by_rounds program procs known bases)
 unfolding closure_by_rounds
-rounds-tell program procs known bases no_phases =
-    tells-bind (closure-tells program procs known bases [] no_phases) (λ first.
-    tells-bind (closure-tells program procs known bases first no_phases) (λ second.
-    tells-bind (tells-each with_candidate [] _ with_candidate-tells) (λ candidates. tells-then _ (last_round-tells program procs known candidates no_phases))))
+rounds-tell program procs known bases is_plain =
+    tells-bind (closure-tells program procs known bases [] is_plain) (λ first.
+    tells-bind (closure-tells program procs known bases first is_plain) (λ second.
+    tells-bind (tells-each with_candidate [] _ with_candidate-tells) (λ candidates. tells-then _ (last_round-tells program procs known candidates is_plain))))
 
-closed_from-tells : (linear : Bool) (program : Program) (procs : List ℕ) (known : List (Option Transition)) (bases : List Transition) → has_phases program.rule ≡ false → TellsAll (closure_from linear program procs known bases)
-closed_from-tells true program procs known bases no_phases = closure-tells program procs known bases [] no_phases
-closed_from-tells false program procs known bases no_phases = rounds-tell program procs known bases no_phases
+closed_from-tells : (linear : Bool) (program : Program) (procs : List ℕ) (known : List (Option Transition)) (bases : List Transition) → IsPlainRule program.rule → TellsAll (closure_from linear program procs known bases)
+closed_from-tells true program procs known bases is_plain = closure-tells program procs known bases [] is_plain
+closed_from-tells false program procs known bases is_plain = rounds-tell program procs known bases is_plain
 
-pub closed-tells : (linear : Bool) (program : Program) (procs : List ℕ) (known : List (Option Transition)) → has_phases program.rule ≡ false → TellsAll (group_closure linear program procs known)
+pub closed-tells : (linear : Bool) (program : Program) (procs : List ℕ) (known : List (Option Transition)) → IsPlainRule program.rule → TellsAll (group_closure linear program procs known)
 unfolding group_closure
-closed-tells linear program procs known no_phases = tells-bind (bases-tell program procs known no_phases) (λ bases. closed_from-tells linear program procs known bases no_phases)
+closed-tells linear program procs known is_plain = tells-bind (bases-tell program procs known is_plain) (λ bases. closed_from-tells linear program procs known bases is_plain)

@@ -16,7 +16,7 @@ use Rattle.transition_formula.specs.Transition.{Transition}
 use Rattle.posing.specs.declared.note.Note.{Note}
 use Rattle.posing.specs.declared.note.Note.TheVariants as note
 use Rattle.posing.specs.Posing.{Posing, Done, each, here}
-use Rattle.phases.specs.Rules.{has_phases}
+use Rattle.phases.specs.Rules.{IsPlainRule}
 use Rattle.flow_graph.specs.FlowGraph.{CheckPlace, graph_of}
 use Rattle.proc_summary.specs.declared.stop.Flow.{Flow}
 use Rattle.proc_summary.specs.declared.stop.NodeFormula.{NodeFormula}
@@ -71,28 +71,28 @@ one-behind made x others e = e ∙ append_assoc made (x ∷ []) others
 
 -- ---- one group
 
-with_flow-tells : (program : Program) (known : List (Option Transition)) (made : List Flow) (p : Proc) → has_phases program.rule ≡ false → TellsAll (with_flow program known made p)
+with_flow-tells : (program : Program) (known : List (Option Transition)) (made : List Flow) (p : Proc) → IsPlainRule program.rule → TellsAll (with_flow program known made p)
 unfolding with_flow
-with_flow-tells program known made p no_phases = tells-then _ (flow-tells (subject_of program p known) (subject-plain program p known no_phases))
+with_flow-tells program known made p is_plain = tells-then _ (flow-tells (subject_of program p known) (subject-plain program p known is_plain))
 
-with_plain-tells : (program : Program) (known : List (Option Transition)) (made : _) (p : Proc) → has_phases program.rule ≡ false → TellsAll (with_plain program known made p)
+with_plain-tells : (program : Program) (known : List (Option Transition)) (made : _) (p : Proc) → IsPlainRule program.rule → TellsAll (with_plain program known made p)
 unfolding with_plain
-with_plain-tells program known made p no_phases = tells-bind (flow-tells (subject_of program p known) (subject-plain program p known no_phases)) (λ flow. tells-then _ (summary-tells _ _))
+with_plain-tells program known made p is_plain = tells-bind (flow-tells (subject_of program p known) (subject-plain program p known is_plain)) (λ flow. tells-then _ (summary-tells _ _))
 
-plain-tells : (program : Program) (procs : List ℕ) (known : List (Option Transition)) → has_phases program.rule ≡ false → TellsAll (plain_part program procs known)
+plain-tells : (program : Program) (procs : List ℕ) (known : List (Option Transition)) → IsPlainRule program.rule → TellsAll (plain_part program procs known)
 unfolding plain_part
-plain-tells program procs known no_phases = tells-each (with_plain program known) _ _ (λ made p. with_plain-tells program known made p no_phases)
+plain-tells program procs known is_plain = tells-each (with_plain program known) _ _ (λ made p. with_plain-tells program known made p is_plain)
 
-recursive-tells : (program : Program) (procs : List ℕ) (known : List (Option Transition)) (summaries : Posing (List Transition)) → has_phases program.rule ≡ false → TellsAll summaries → TellsAll (recursive_part program procs known summaries)
+recursive-tells : (program : Program) (procs : List ℕ) (known : List (Option Transition)) (summaries : Posing (List Transition)) → IsPlainRule program.rule → TellsAll summaries → TellsAll (recursive_part program procs known summaries)
 unfolding recursive_part
-recursive-tells program procs known summaries no_phases tells =
-    tells-bind tells (λ table. tells-then _ (tells-each _ [] _ (λ made p. with_flow-tells program _ made p no_phases)))
+recursive-tells program procs known summaries is_plain tells =
+    tells-bind tells (λ table. tells-then _ (tells-each _ [] _ (λ made p. with_flow-tells program _ made p is_plain)))
 
-summed-tells : (kind : GroupKind) (program : Program) (procs : List ℕ) (known : List (Option Transition)) → has_phases program.rule ≡ false → TellsAll (summaries_by kind program procs known)
+summed-tells : (kind : GroupKind) (program : Program) (procs : List ℕ) (known : List (Option Transition)) → IsPlainRule program.rule → TellsAll (summaries_by kind program procs known)
 unfolding summaries_by
-summed-tells Plain program procs known no_phases = plain-tells program procs known no_phases
-summed-tells Linear program procs known no_phases = recursive-tells program procs known _ no_phases (closed-tells true program procs known no_phases)
-summed-tells Rounds program procs known no_phases = recursive-tells program procs known _ no_phases (closed-tells false program procs known no_phases)
+summed-tells Plain program procs known is_plain = plain-tells program procs known is_plain
+summed-tells Linear program procs known is_plain = recursive-tells program procs known _ is_plain (closed-tells true program procs known is_plain)
+summed-tells Rounds program procs known is_plain = recursive-tells program procs known _ is_plain (closed-tells false program procs known is_plain)
 
 in-program : (procs : List ℕ) (notes : List Note) → limits_told (map (note_in procs) notes) ≡ limits_told notes
 in-program procs [] = refl
@@ -107,10 +107,10 @@ pub record IsPartNamed (notes : List Note) (share : List Answer) (part : Part) :
   pub quiet : notes ≡ []
   pub same : AreSame (limits_given share) (limits_told part.notes)
 
-part-named : (program : Program) (planned : Planned) (known : List (Option Transition)) (notes : List Note) (share : List Answer) (part : Part) → has_phases program.rule ≡ false
+part-named : (program : Program) (planned : Planned) (known : List (Option Transition)) (notes : List Note) (share : List Answer) (part : Part) → IsPlainRule program.rule
     → LeadsTo (part_of program planned known) notes share (Done part) → IsPartNamed notes share part
 unfolding part_of
-part-named program planned known notes share part no_phases path =
+part-named program planned known notes share part is_plain path =
     let cut = path-cut (apart (summaries_by planned.kind program planned.procs known)) _ notes share part path in
     let own = path-apart [] (summaries_by planned.kind program planned.procs known) cut.first cut.share cut.value cut.leads in
     let end = from-Done _ part cut.more cut.others cut.rest in
@@ -118,7 +118,7 @@ part-named program planned known notes share part no_phases path =
       quiet = none-both cut.notes_are own.quiet end.notes_are;
       same = record {
         same = λ test.
-            let balance = (summed-tells planned.kind program planned.procs known no_phases).balances.balance test own.own cut.share cut.value.0 own.leads in
+            let balance = (summed-tells planned.kind program planned.procs known is_plain).balances.balance test own.own cut.share cut.value.0 own.leads in
             let whole = ap (given test) cut.answers_are ∙ given-append test cut.share cut.others in
             let none = ap (given test) end.answers_are in
             let stands = ap (λ (p : Part). told test p.notes) end.same ∙ ap (count test) (in-program planned.procs cut.value.1) ∙ ap (told test) own.own_are in
@@ -135,10 +135,10 @@ pub record AreGroupsShared (program : Program) (come : List ℕ) (found last : F
   pub clear : length last.notes ≡ length program.procs
   pub sum : (test : Limit → Bool) → all_told test last.notes ≡ all_told test found.notes + given test answers
 
-pub groups-shared : (program : Program) (come : List ℕ) (found last : Found) (plan : List Planned) (notes : List Note) (answers : List Answer) → has_phases program.rule ≡ false → AreNew program come plan → IsClear program come found.notes
+pub groups-shared : (program : Program) (come : List ℕ) (found last : Found) (plan : List Planned) (notes : List Note) (answers : List Answer) → IsPlainRule program.rule → AreNew program come plan → IsClear program come found.notes
     → LeadsTo (each (with_group program) found plan) notes answers (Done last) → AreGroupsShared program come found last plan notes answers
 unfolding with_group
-groups-shared program come found last [] notes answers no_phases new clear path =
+groups-shared program come found last [] notes answers is_plain new clear path =
     let end = from-Done found last notes answers path in
     record {
       quiet = end.notes_are;
@@ -150,15 +150,15 @@ groups-shared program come found last [] notes answers no_phases new clear path 
           let none = ap (given test) end.answers_are in
           omega (arith, same, none);
     }
-groups-shared program come found last (planned ∷ plan) notes answers no_phases new clear path =
+groups-shared program come found last (planned ∷ plan) notes answers is_plain new clear path =
     let cut = path-cut (with_group program found planned) (λ next. each (with_group program) next plan) notes answers last path in
     let own = path-cut (part_of program planned found.known) (λ part. Done (with_part found planned.procs part)) cut.first cut.share cut.value cut.leads in
     let part = own.value in
     let end = from-Done (with_part found planned.procs part) cut.value own.more own.others own.rest in
-    let named = part-named program planned found.known own.first own.share part no_phases own.leads in
+    let named = part-named program planned found.known own.first own.share part is_plain own.leads in
     let next = with_part found planned.procs part in
     let there = placed program come planned.procs part.notes found.notes new.0 clear in
-    let rest = groups-shared program (come ++ planned.procs) next last plan cut.more cut.others no_phases new.1 there.clear
+    let rest = groups-shared program (come ++ planned.procs) next last plan cut.more cut.others is_plain new.1 there.clear
     (subst (λ made. LeadsTo (each (with_group program) made plan) cut.more cut.others (Done last)) end.same cut.rest) in
     let share : answers ≡ own.share ++ cut.others = own-first own.share cut.others cut.answers_are own.answers_are end.answers_are in
     record {
@@ -190,18 +190,18 @@ pub record IsAssertionShared (a : Option Asserted) (notes : List Note) (share : 
 -- the rule of its program has no phases
 abbrev IsPlain : Option Asserted → Type 0
 IsPlain None = Unit {0}
-IsPlain (Some a) = has_phases a.program.rule ≡ false
+IsPlain (Some a) = IsPlainRule a.program.rule
 
 assertion-shared : (at : TextPlace) (a : Option Asserted) (notes : List Note) (share : List Answer) (judged : Judged) → IsPlain a → LeadsTo (judgement_of at a) notes share (Done judged) → IsAssertionShared a notes share judged
 unfolding judgement_of
-assertion-shared at None notes share judged no_phases path =
+assertion-shared at None notes share judged is_plain path =
     let end = from-Done (unreached_judgement at) judged notes share path in
     let own : IsAssertionNamed None [] (unreached_judgement at) = record { leads = here (Done Proved); same = same-refl []; own = λ case limit e. absurd (cc e) } in
     record {
       quiet = end.notes_are;
       named = subst (λ j. IsAssertionNamed None share j) (sym end.same) (subst (λ l. IsAssertionNamed None l (unreached_judgement at)) (sym end.answers_are) own);
     }
-assertion-shared at (Some a) notes share judged no_phases path =
+assertion-shared at (Some a) notes share judged is_plain path =
     let p = verdict_of (place_of a.program a.p) a.cond a.entry a.stand in
     let cut = path-cut (apart p) _ notes share judged path in
     let own = path-apart [] p cut.first cut.share cut.value cut.leads in
@@ -217,7 +217,7 @@ assertion-shared at (Some a) notes share judged no_phases path =
         leads = leads;
         same = record {
           same = λ test.
-              let balance = (verdict-balances a.program a.p a.cond a.entry a.stand no_phases).balance test judged.notes share judged.verdict leads in
+              let balance = (verdict-balances a.program a.p a.cond a.entry a.stand is_plain).balance test judged.notes share judged.verdict leads in
               let both = count-append test (limit_carried judged.verdict) (limits_told judged.notes) in
               omega (arith, balance, both);
         };
@@ -227,20 +227,20 @@ assertion-shared at (Some a) notes share judged no_phases path =
 
 -- ---- the assertions
 
-asserted-plain : (program : Program) (p : Option Proc) (check : Option CheckPlace) (entry : Option (Option Transition)) (stop : Option NodeFormula) → has_phases program.rule ≡ false → IsPlain (asserted_if program p check entry stop)
-asserted-plain program None check entry stop no_phases = tt
-asserted-plain program (Some p) None entry stop no_phases = tt
-asserted-plain program (Some p) (Some check) None stop no_phases = tt
-asserted-plain program (Some p) (Some check) (Some entry) None no_phases = tt
-asserted-plain program (Some p) (Some check) (Some entry) (Some stop) no_phases = no_phases
+asserted-plain : (program : Program) (p : Option Proc) (check : Option CheckPlace) (entry : Option (Option Transition)) (stop : Option NodeFormula) → IsPlainRule program.rule → IsPlain (asserted_if program p check entry stop)
+asserted-plain program None check entry stop is_plain = tt
+asserted-plain program (Some p) None entry stop is_plain = tt
+asserted-plain program (Some p) (Some check) None stop is_plain = tt
+asserted-plain program (Some p) (Some check) (Some entry) None is_plain = tt
+asserted-plain program (Some p) (Some check) (Some entry) (Some stop) is_plain = is_plain
 
-of_check-plain : (program : Program) (entries : List (Option Transition)) (flows : List Flow) (check : Option _) → has_phases program.rule ≡ false → IsPlain (assertion_of program entries flows check)
-of_check-plain program entries flows None no_phases = tt
-of_check-plain program entries flows (Some c) no_phases =
-    asserted-plain program (slice_get program.procs c.proc) (slice_get (graph_of program c.proc).checks c.check) (slice_get entries c.proc) (slice_get (stops_in (slice_get flows c.proc)) c.check) no_phases
+of_check-plain : (program : Program) (entries : List (Option Transition)) (flows : List Flow) (check : Option _) → IsPlainRule program.rule → IsPlain (assertion_of program entries flows check)
+of_check-plain program entries flows None is_plain = tt
+of_check-plain program entries flows (Some c) is_plain =
+    asserted-plain program (slice_get program.procs c.proc) (slice_get (graph_of program c.proc).checks c.check) (slice_get entries c.proc) (slice_get (stops_in (slice_get flows c.proc)) c.check) is_plain
 
-numbered-plain : (program : Program) (entries : List (Option Transition)) (flows : List Flow) (number : ℕ) → has_phases program.rule ≡ false → IsPlain (numbered_assertion program entries flows number)
-numbered-plain program entries flows number no_phases = of_check-plain program entries flows (check_with number (checks_of 0 program.procs)) no_phases
+numbered-plain : (program : Program) (entries : List (Option Transition)) (flows : List Flow) (number : ℕ) → IsPlainRule program.rule → IsPlain (numbered_assertion program entries flows number)
+numbered-plain program entries flows number is_plain = of_check-plain program entries flows (check_with number (checks_of 0 program.procs)) is_plain
 
 pub record AreAssertionsShared (program : Program) (entries : List (Option Transition)) (flows : List Flow) (made : List Judged) (numbers : List ℕ) (notes : List Note) (answers : List Answer) (last : List Judged) : Type 0 where
   pub quiet : notes ≡ []
@@ -249,10 +249,10 @@ pub record AreAssertionsShared (program : Program) (entries : List (Option Trans
   pub named : AreAssertionsNamed program entries flows numbers answers others
   pub sum : (test : Limit → Bool) → given test answers ≡ count test (flat_map limits_judged others)
 
-pub assertions-shared : (program : Program) (places : List TextPlace) (entries : List (Option Transition)) (flows : List Flow) (made : List Judged) (numbers : List ℕ) (notes : List Note) (answers : List Answer) (last : List Judged) → has_phases program.rule ≡ false
+pub assertions-shared : (program : Program) (places : List TextPlace) (entries : List (Option Transition)) (flows : List Flow) (made : List Judged) (numbers : List ℕ) (notes : List Note) (answers : List Answer) (last : List Judged) → IsPlainRule program.rule
     → LeadsTo (each (with_judged program places entries flows) made numbers) notes answers (Done last) → AreAssertionsShared program entries flows made numbers notes answers last
 unfolding with_judged
-assertions-shared program places entries flows made [] notes answers last no_phases path =
+assertions-shared program places entries flows made [] notes answers last is_plain path =
     let end = from-Done made last notes answers path in
     record {
       quiet = end.notes_are;
@@ -261,12 +261,12 @@ assertions-shared program places entries flows made [] notes answers last no_pha
       named = subst (λ l. AreAssertionsNamed program entries flows [] l []) (sym end.answers_are) no_assertion;
       sum = λ test. ap (given test) end.answers_are;
     }
-assertions-shared program places entries flows made (number ∷ numbers) notes answers last no_phases path =
+assertions-shared program places entries flows made (number ∷ numbers) notes answers last is_plain path =
     let cut = path-cut (with_judged program places entries flows made number) (λ next. each (with_judged program places entries flows) next numbers) notes answers last path in
     let own = path-cut (judgement_of (place_in places number) (numbered_assertion program entries flows number)) (λ judged. Done (made ++ judged ∷ [])) cut.first cut.share cut.value cut.leads in
     let end = from-Done (made ++ own.value ∷ []) cut.value own.more own.others own.rest in
-    let one = assertion-shared (place_in places number) (numbered_assertion program entries flows number) own.first own.share own.value (numbered-plain program entries flows number no_phases) own.leads in
-    let rest = assertions-shared program places entries flows (made ++ own.value ∷ []) numbers cut.more cut.others last no_phases
+    let one = assertion-shared (place_in places number) (numbered_assertion program entries flows number) own.first own.share own.value (numbered-plain program entries flows number is_plain) own.leads in
+    let rest = assertions-shared program places entries flows (made ++ own.value ∷ []) numbers cut.more cut.others last is_plain
     (subst (λ next. LeadsTo (each (with_judged program places entries flows) next numbers) cut.more cut.others (Done last)) end.same cut.rest) in
     let share : answers ≡ own.share ++ cut.others = own-first own.share cut.others cut.answers_are own.answers_are end.answers_are in
     record {
@@ -285,16 +285,16 @@ assertions-shared program places entries flows made (number ∷ numbers) notes a
 
 -- ---- the whole
 
-report-named : (program : Program) (places : List TextPlace) (plan : List Planned) (found : Found) (notes : List Note) (of_groups others : List Answer) (report : Report) → has_phases program.rule ≡ false → IsPlan program plan → ReportCovers program report
+report-named : (program : Program) (places : List TextPlace) (plan : List Planned) (found : Found) (notes : List Note) (of_groups others : List Answer) (report : Report) → IsPlainRule program.rule → IsPlan program plan → ReportCovers program report
     → LeadsTo (findings_by_plan program plan) notes of_groups (Done found) → (more : List Note) → LeadsTo (report_by_findings program places found) more others (Done report)
     → LimitsAreNamed program plan (of_groups ++ others) report
 unfolding findings_by_plan report_by_findings report_by judgements_on_all
-report-named program places plan found notes of_groups others report no_phases is_plan covers path more later =
-    let groups = groups-shared program [] (nothing_found (length program.procs)) found plan notes of_groups no_phases (plan-new program plan is_plan) (blank-clear program) path in
+report-named program places plan found notes of_groups others report is_plain is_plan covers path more later =
+    let groups = groups-shared program [] (nothing_found (length program.procs)) found plan notes of_groups is_plain (plan-new program plan is_plan) (blank-clear program) path in
     let cut = path-cut (apart (entries_from program (flows_in found))) _ more others report later in
     let own = path-apart [] (entries_from program (flows_in found)) cut.first cut.share cut.value cut.leads in
     let second = path-cut (each (with_judged program places cut.value.0 (flows_in found)) [] (range_with_len 1 (length program.checks))) _ cut.more cut.others report cut.rest in
-    let assertions = assertions-shared program places cut.value.0 (flows_in found) [] (range_with_len 1 (length program.checks)) second.first second.share second.value no_phases second.leads in
+    let assertions = assertions-shared program places cut.value.0 (flows_in found) [] (range_with_len 1 (length program.checks)) second.first second.share second.value is_plain second.leads in
     let end = from-Done _ report second.more second.others second.rest in
     let of_entries = cut.share in
     let of_assertions = second.share in
@@ -314,7 +314,7 @@ report-named program places plan found notes of_groups others report no_phases i
             ap (count test) (sym (flat_map-map limits_told (λ (b : ProcBlock). b.notes) report.procs)) ∙ ap (all_told test) noted in
             let first = groups.sum test in
             let blank = blank-told test (length program.procs) in
-            let entries = (entries-tell program (flows_in found) no_phases).balances.balance test own.own of_entries cut.value.0 own.leads in
+            let entries = (entries-tell program (flows_in found) is_plain).balances.balance test own.own of_entries cut.value.0 own.leads in
             let in_notes = ap (told test) told_by in
             let last = assertions.sum test in
             let in_judged = ap (λ l. count test (flat_map limits_judged l)) judged in
@@ -335,7 +335,7 @@ report-named program places plan found notes of_groups others report no_phases i
         leads = subst (λ ns. LeadsTo (entries_from program (flows_in found)) ns of_entries (Done cut.value.0)) (sym told_by) own.leads;
         same = record {
           same = λ test.
-              let balance = (entries-tell program (flows_in found) no_phases).balances.balance test own.own of_entries cut.value.0 own.leads in
+              let balance = (entries-tell program (flows_in found) is_plain).balances.balance test own.own of_entries cut.value.0 own.leads in
               let in_notes = ap (told test) told_by in
               omega (arith, balance, in_notes);
         };
@@ -343,10 +343,10 @@ report-named program places plan found notes of_groups others report no_phases i
       assertions = subst (λ l. AreAssertionsNamed program cut.value.0 (flows_in found) (range_with_len 1 (length program.checks)) of_assertions l) (sym judged) assertions.named;
     }
 
-pub analysis-names : (program : Program) (places : List TextPlace) (plan : List Planned) (answers : List Answer) (report : Report) → has_phases program.rule ≡ false → IsPlan program plan
+pub analysis-names : (program : Program) (places : List TextPlace) (plan : List Planned) (answers : List Answer) (report : Report) → IsPlainRule program.rule → IsPlan program plan
     → LeadsTo (report_by_plan program places plan) [] answers (Done report) → ReportCovers program report → LimitsAreNamed program plan answers report
 unfolding report_by_plan
-analysis-names program places plan answers report no_phases is_plan path covers =
+analysis-names program places plan answers report is_plain is_plan path covers =
     let cut = path-cut (findings_by_plan program plan) (λ found. report_by_findings program places found) [] answers report path in
     subst (λ l. LimitsAreNamed program plan l report) (sym cut.answers_are)
-    (report-named program places plan cut.value cut.first cut.share cut.others report no_phases is_plan covers cut.leads cut.more cut.rest)
+    (report-named program places plan cut.value cut.first cut.share cut.others report is_plain is_plan covers cut.leads cut.more cut.rest)

@@ -4,7 +4,7 @@
 --     evaluated-tells                     all operations of a graph
 --     cells-tell, flow-tells, summary-tells
 -- Under a rule with phases a limit may let a split fall, and is then told nowhere.
-use Rattle.std.proofs.Common.{◌≡◌, ℕ, zero, suc, List, [], ◌∷◌, Bool, true, false, refl, sym, subst}
+use Rattle.std.proofs.Common.{ℕ, zero, suc, List, [], ◌∷◌, Bool, true, false, refl, sym, subst}
 use Rattle.std.specs.Prelude.{Option, None, replicate}
 use Rattle.std.specs.List.{AllByRecursion}
 use Rattle.linear_terms.specs.declared.row.Case.{Case}
@@ -14,7 +14,7 @@ use Rattle.polyhedra.specs.Vocabulary.{Vocabulary}
 use Rattle.recurrence.specs.Star.{rows_of, star_by, star_of, turns}
 use Rattle.recurrence.specs.Strata.{strata, stratum, stratum_if}
 use Rattle.phases.specs.Repetition.{repetition}
-use Rattle.phases.specs.Rules.{has_phases}
+use Rattle.phases.specs.Rules.{IsPlainRule}
 use Rattle.phases.proofs.Repetitions.{repetition-plain}
 use Rattle.syntax_tree.specs.declared.program.Proc.{Proc}
 use Rattle.syntax_tree.specs.declared.program.Program.{Program}
@@ -64,36 +64,36 @@ star-tells body voc = star_by-tells body voc body.cases
 -- ---- rules without phases
 
 -- the rule of a vocabulary has no phases
-abbrev pub HasNoPhases : Vocabulary → Type 0
-HasNoPhases voc = has_phases voc.rule ≡ false
+abbrev pub HasPlainRule : Vocabulary → Type 0
+HasPlainRule voc = IsPlainRule voc.rule
 
 -- nor has that of any node
-abbrev pub HaveNoPhases : Graph → Type 0
-HaveNoPhases g = (node : ℕ) → HasNoPhases (vocabulary_at g node)
+abbrev pub HavePlainRules : Graph → Type 0
+HavePlainRules g = (node : ℕ) → HasPlainRule (vocabulary_at g node)
 
-bare-plain : (nodes : List Vocabulary) → AllByRecursion HasNoPhases nodes → HaveNoPhases (bare nodes)
-bare-plain [] all zero = refl
-bare-plain [] all (suc n) = refl
+bare-plain : (nodes : List Vocabulary) → AllByRecursion HasPlainRule nodes → HavePlainRules (bare nodes)
+bare-plain [] all zero = record { no_phases = refl; no_facets = refl }
+bare-plain [] all (suc n) = record { no_phases = refl; no_facets = refl }
 bare-plain (voc ∷ nodes) all zero = all.0
 bare-plain (voc ∷ nodes) all (suc n) = bare-plain nodes all.1 n
 
-pub nodes-plain : (g : Graph) → AllByRecursion HasNoPhases g.nodes → HaveNoPhases g
+pub nodes-plain : (g : Graph) → AllByRecursion HasPlainRule g.nodes → HavePlainRules g
 nodes-plain g all node = bare-plain g.nodes all node
 
-copies-plain : (voc : Vocabulary) → HasNoPhases voc → (count : ℕ) → AllByRecursion HasNoPhases (replicate count voc)
-copies-plain voc no_phases zero = tt
-copies-plain voc no_phases (suc count) = (no_phases, copies-plain voc no_phases count)
+copies-plain : (voc : Vocabulary) → HasPlainRule voc → (count : ℕ) → AllByRecursion HasPlainRule (replicate count voc)
+copies-plain voc is_plain zero = tt
+copies-plain voc is_plain (suc count) = (is_plain, copies-plain voc is_plain count)
 
-full-plain : (program : Program) (p : Proc) → has_phases program.rule ≡ false → HasNoPhases (full_of program p)
+full-plain : (program : Program) (p : Proc) → IsPlainRule program.rule → HasPlainRule (full_of program p)
 unfolding full_of
-full-plain program p no_phases = no_phases
+full-plain program p is_plain = is_plain
 
-pub subject-plain : (program : Program) (p : Proc) (known : List (Option Transition)) → has_phases program.rule ≡ false → HaveNoPhases (graph_by (subject_of program p known))
-subject-plain program p known no_phases =
-    nodes-plain (graph_by (subject_of program p known)) (copies-plain (full_of program p) (full-plain program p no_phases) (own_graph p).nodes)
+pub subject-plain : (program : Program) (p : Proc) (known : List (Option Transition)) → IsPlainRule program.rule → HavePlainRules (graph_by (subject_of program p known))
+subject-plain program p known is_plain =
+    nodes-plain (graph_by (subject_of program p known)) (copies-plain (full_of program p) (full-plain program p is_plain) (own_graph p).nodes)
 
-pub repetition-tells : (body : Transition) (voc : Vocabulary) → HasNoPhases voc → TellsAll (repetition body voc)
-repetition-tells body voc no_phases = subst TellsAll (sym (repetition-plain body voc no_phases)) (star-tells body voc)
+pub repetition-tells : (body : Transition) (voc : Vocabulary) → HasPlainRule voc → TellsAll (repetition body voc)
+repetition-tells body voc is_plain = subst TellsAll (sym (repetition-plain body voc is_plain)) (star-tells body voc)
 
 -- ---- evaluations
 
@@ -113,35 +113,35 @@ join-tells : (left right : Transition) (from to : Vocabulary) → TellsAll (join
 unfolding join_formula
 join-tells left right from to = fitted-tells _ from to
 
-own-tells : (g : Graph) (made : Made) (path : PathExpr) → HaveNoPhases g → TellsAll (own g made path)
-own-tells g made Zero no_phases = tells-done _
-own-tells g made One no_phases = tells-done _
-own-tells g made (Edge number) no_phases = leaf-tells _ _ _
-own-tells g made (Seq a b) no_phases = sequence-tells _ _ _ _
-own-tells g made (Join a b) no_phases = join-tells _ _ _ _
-own-tells g made (Star a) no_phases = repetition-tells (formula_at made a) (start_vocabulary g a) (no_phases (start_of g a))
+own-tells : (g : Graph) (made : Made) (path : PathExpr) → HavePlainRules g → TellsAll (own g made path)
+own-tells g made Zero is_plain = tells-done _
+own-tells g made One is_plain = tells-done _
+own-tells g made (Edge number) is_plain = leaf-tells _ _ _
+own-tells g made (Seq a b) is_plain = sequence-tells _ _ _ _
+own-tells g made (Join a b) is_plain = join-tells _ _ _ _
+own-tells g made (Star a) is_plain = repetition-tells (formula_at made a) (start_vocabulary g a) (is_plain (start_of g a))
 
-with_made-tells : (g : Graph) (made : Made) (path : PathExpr) → HaveNoPhases g → TellsAll (with_made g made path)
+with_made-tells : (g : Graph) (made : Made) (path : PathExpr) → HavePlainRules g → TellsAll (with_made g made path)
 unfolding with_made
-with_made-tells g made path no_phases = tells-then _ (own-tells g made path no_phases)
+with_made-tells g made path is_plain = tells-then _ (own-tells g made path is_plain)
 
-evaluation-tells : (g : Graph) (source : ℕ) → HaveNoPhases g → TellsAll (evaluation g source)
+evaluation-tells : (g : Graph) (source : ℕ) → HavePlainRules g → TellsAll (evaluation g source)
 unfolding evaluation
-evaluation-tells g source no_phases = tells-each (with_made g) [] _ (λ made path. with_made-tells g made path no_phases)
+evaluation-tells g source is_plain = tells-each (with_made g) [] _ (λ made path. with_made-tells g made path is_plain)
 
-pub evaluated-tells : (g : Graph) (source : ℕ) → HaveNoPhases g → TellsAll (evaluated_cells g source)
+pub evaluated-tells : (g : Graph) (source : ℕ) → HavePlainRules g → TellsAll (evaluated_cells g source)
 unfolding evaluated_cells
-evaluated-tells g source no_phases = tells-then _ (evaluation-tells g source no_phases)
+evaluated-tells g source is_plain = tells-then _ (evaluation-tells g source is_plain)
 
 -- ---- procedures
 
-pub cells-tell : (s : Subject) (source : ℕ) → HaveNoPhases (graph_by s) → TellsAll (cells_from s source)
+pub cells-tell : (s : Subject) (source : ℕ) → HavePlainRules (graph_by s) → TellsAll (cells_from s source)
 unfolding cells_from
-cells-tell s source no_phases = tells-noted (losses-tell_none _) (evaluated-tells (graph_by s) source no_phases)
+cells-tell s source is_plain = tells-noted (losses-tell_none _) (evaluated-tells (graph_by s) source is_plain)
 
-pub flow-tells : (s : Subject) → HaveNoPhases (graph_by s) → TellsAll (flow_from s)
+pub flow-tells : (s : Subject) → HavePlainRules (graph_by s) → TellsAll (flow_from s)
 unfolding flow_from
-flow-tells s no_phases = tells-then _ (cells-tell s 0 no_phases)
+flow-tells s is_plain = tells-then _ (cells-tell s 0 is_plain)
 
 pub summary-tells : (ends : Ends) (exit : Option Transition) → TellsAll (summary_from ends exit)
 unfolding summary_from

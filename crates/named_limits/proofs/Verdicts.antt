@@ -23,7 +23,7 @@ use Rattle.posing.specs.declared.note.Note.{Note}
 use Rattle.posing.specs.Posing.{Posing, Done, answer_to, ◌>>=◌, each}
 use Rattle.polyhedra.specs.Infeasibility.{is_yes}
 use Rattle.polyhedra.specs.Vocabulary.{Vocabulary}
-use Rattle.phases.specs.Rules.{has_phases}
+use Rattle.phases.specs.Rules.{IsPlainRule, has_phases}
 use Rattle.vocabularies.specs.Ends.{entry_of, full_of, start_of}
 use Rattle.proc_summary.specs.declared.stop.Flow.{Flow}
 use Rattle.context.specs.Entries.{entries_from, entry_graph, main_entry, nodes_of, others_from, unless_main}
@@ -38,39 +38,39 @@ use Rattle.named_limits.proofs.LeadingQuestions.{Never, Owns, asked-now, owns-be
 use Rattle.named_limits.proofs.Balance.{Balances, TellsAll, balances-asked, balances-bind, balances-done, balances-each, balances-frame, balances-noted, balances-quiet, no_limit, same-of, same-refl, tells-noted, tells-then, told}
 use Rattle.named_limits.proofs.Cuts.{from-Asked, from-Done}
 use Rattle.named_limits.proofs.FittingLimits.{losses-tell_none}
-use Rattle.named_limits.proofs.Stars.{HasNoPhases, evaluated-tells, nodes-plain, settled_and_fitted-tells}
+use Rattle.named_limits.proofs.Stars.{HasPlainRule, evaluated-tells, nodes-plain, settled_and_fitted-tells}
 
 -- ---- entries
 
-module _ (program : Program) (no_phases : has_phases program.rule ≡ false) where
-  start-plain : HasNoPhases (start_of program)
+module _ (program : Program) (is_plain : IsPlainRule program.rule) where
+  start-plain : HasPlainRule (start_of program)
   unfolding start_of
-  start-plain = no_phases
+  start-plain = is_plain
 
-  entry-plain : (p : Proc) → HasNoPhases (entry_of program p)
+  entry-plain : (p : Proc) → HasPlainRule (entry_of program p)
   unfolding entry_of
-  entry-plain p = no_phases
+  entry-plain p = is_plain
 
-  main-plain : (procs : List Proc) → AllByRecursion HasNoPhases (map (entry_of program) procs)
+  main-plain : (procs : List Proc) → AllByRecursion HasPlainRule (map (entry_of program) procs)
   main-plain [] = tt
   main-plain (p ∷ procs) = (entry-plain p, main-plain procs)
 
-  others-plain : (number : ℕ) (procs : List Proc) → AllByRecursion HasNoPhases (others_from program number procs)
+  others-plain : (number : ℕ) (procs : List Proc) → AllByRecursion HasPlainRule (others_from program number procs)
   others-plain number [] = tt
   others-plain number (p ∷ procs) = go (number == program.main) (others_from program (number + 1) procs) (others-plain (number + 1) procs)
     where
-      go : (is_main : Bool) (others : List Vocabulary) → AllByRecursion HasNoPhases others → AllByRecursion HasNoPhases (unless_main is_main (entry_of program p) others)
+      go : (is_main : Bool) (others : List Vocabulary) → AllByRecursion HasPlainRule others → AllByRecursion HasPlainRule (unless_main is_main (entry_of program p) others)
       go true others all = all
       go false others all = (entry-plain p, all)
 
-  entry_nodes-plain : AllByRecursion HasNoPhases (nodes_of program)
+  entry_nodes-plain : AllByRecursion HasPlainRule (nodes_of program)
   entry_nodes-plain =
-      (start-plain, each-append HasNoPhases (main_entry program) (others_from program 0 program.procs) (main-plain (option_to_list (slice_get program.procs program.main))) (others-plain 0 program.procs))
+      (start-plain, each-append HasPlainRule (main_entry program) (others_from program 0 program.procs) (main-plain (option_to_list (slice_get program.procs program.main))) (others-plain 0 program.procs))
 
-pub entries-tell : (program : Program) (flows : List Flow) → has_phases program.rule ≡ false → TellsAll (entries_from program flows)
+pub entries-tell : (program : Program) (flows : List Flow) → IsPlainRule program.rule → TellsAll (entries_from program flows)
 unfolding entries_from
-entries-tell program flows no_phases =
-    tells-noted (losses-tell_none _) (tells-then _ (evaluated-tells (entry_graph program flows) 0 (nodes-plain (entry_graph program flows) (entry_nodes-plain program no_phases))))
+entries-tell program flows is_plain =
+    tells-noted (losses-tell_none _) (tells-then _ (evaluated-tells (entry_graph program flows) 0 (nodes-plain (entry_graph program flows) (entry_nodes-plain program is_plain))))
 
 reached-tells : (place : _) (begun stand : Transition) → TellsAll (reach_from place begun stand)
 unfolding reach_from
@@ -92,25 +92,25 @@ verdict_at-balances case [] = balances-done [] limit_carried (Unproved case []) 
 verdict_at-balances case (row ∷ rows) =
     balances-asked [] limit_carried (Infeasible (row ∷ rows)) _ (λ a. balances-done (limit_given a) limit_carried (verdict_by case a) (verdict-same case a))
 
-verdict_left-balances : (rule : ℕ) (left : Option Case) → has_phases rule ≡ false → Balances [] limit_carried (verdict_left rule left)
-verdict_left-balances rule None no_phases = balances-done [] limit_carried Proved (same-refl [])
-verdict_left-balances rule (Some case) no_phases =
-    subst (λ phases. Balances [] limit_carried (by_rule phases (verdict_at case case.rows))) (sym no_phases) (verdict_at-balances case case.rows)
+verdict_left-balances : (rule : ℕ) (left : Option Case) → IsPlainRule rule → Balances [] limit_carried (verdict_left rule left)
+verdict_left-balances rule None is_plain = balances-done [] limit_carried Proved (same-refl [])
+verdict_left-balances rule (Some case) is_plain =
+    subst (λ phases. Balances [] limit_carried (by_rule phases (verdict_at case case.rows))) (sym is_plain.no_phases) (verdict_at-balances case case.rows)
 
-case-balances : (rule : ℕ) (case : Case) → has_phases rule ≡ false → Balances [] limit_carried (case_verdict rule case)
+case-balances : (rule : ℕ) (case : Case) → IsPlainRule rule → Balances [] limit_carried (case_verdict rule case)
 unfolding case_verdict
-case-balances rule case no_phases = balances-quiet (losses-tell_none _) (verdict_left-balances rule _ no_phases)
+case-balances rule case is_plain = balances-quiet (losses-tell_none _) (verdict_left-balances rule _ is_plain)
 
 -- ---- all cases
 
 abbrev all_carried : List Verdict → List Limit
 all_carried verdicts = flat_map limit_carried verdicts
 
-with_verdict-balances : (rule : ℕ) (made : List Verdict) (case : Case) → has_phases rule ≡ false → Balances (all_carried made) all_carried (with_verdict rule made case)
+with_verdict-balances : (rule : ℕ) (made : List Verdict) (case : Case) → IsPlainRule rule → Balances (all_carried made) all_carried (with_verdict rule made case)
 unfolding with_verdict
-with_verdict-balances rule made case no_phases =
+with_verdict-balances rule made case is_plain =
     balances-bind (all_carried made) (λ verdict. all_carried made ++ limit_carried verdict) all_carried (case_verdict rule case) _
-    (balances-frame (all_carried made) limit_carried (case_verdict rule case) (case-balances rule case no_phases))
+    (balances-frame (all_carried made) limit_carried (case_verdict rule case) (case-balances rule case is_plain))
     (λ verdict. balances-done (all_carried made ++ limit_carried verdict) all_carried (made ++ verdict ∷ [])
     (same-of (ap (λ l. all_carried made ++ l) (sym (append-nil (limit_carried verdict))) ∙ sym (flat_map-append limit_carried made (verdict ∷ [])))))
 
@@ -155,23 +155,23 @@ all-told test verdicts = go (list_any is_refuted verdicts) refl
         omega (arith, others, own)
     go false e = first-carried test verdicts e
 
-judged-balances : (rule : ℕ) (cases : List Case) → has_phases rule ≡ false → Balances [] limit_carried (verdict_on_cases_from rule cases)
+judged-balances : (rule : ℕ) (cases : List Case) → IsPlainRule rule → Balances [] limit_carried (verdict_on_cases_from rule cases)
 unfolding verdict_on_cases_from
-judged-balances rule cases no_phases =
-    balances-bind [] all_carried limit_carried (each (with_verdict rule) [] cases) _ (balances-each all_carried (with_verdict rule) [] cases (λ made case. with_verdict-balances rule made case no_phases))
+judged-balances rule cases is_plain =
+    balances-bind [] all_carried limit_carried (each (with_verdict rule) [] cases) _ (balances-each all_carried (with_verdict rule) [] cases (λ made case. with_verdict-balances rule made case is_plain))
     (λ verdicts. balances-noted (all_carried verdicts) (limit_carried (verdict_from verdicts)) limit_carried (limits_of verdicts) (Done (verdict_from verdicts)) (λ test. all-told test verdicts)
     (balances-done (limit_carried (verdict_from verdicts)) limit_carried (verdict_from verdicts) (same-refl (limit_carried (verdict_from verdicts)))))
 
 -- ---- the assertion
 
-failed-balances : (program : Program) (p : Proc) (cond : Term) (f : Transition) → has_phases program.rule ≡ false → Balances [] limit_carried (failure_verdict_from (place_of program p) cond f)
+failed-balances : (program : Program) (p : Proc) (cond : Term) (f : Transition) → IsPlainRule program.rule → Balances [] limit_carried (failure_verdict_from (place_of program p) cond f)
 unfolding failure_verdict_from full_of
-failed-balances program p cond f no_phases = balances-quiet (losses-tell_none _) (judged-balances program.rule _ no_phases)
+failed-balances program p cond f is_plain = balances-quiet (losses-tell_none _) (judged-balances program.rule _ is_plain)
 
-pub verdict-balances : (program : Program) (p : Proc) (cond : Term) (entry stand : Option Transition) → has_phases program.rule ≡ false → Balances [] limit_carried (verdict_of (place_of program p) cond entry stand)
+pub verdict-balances : (program : Program) (p : Proc) (cond : Term) (entry stand : Option Transition) → IsPlainRule program.rule → Balances [] limit_carried (verdict_of (place_of program p) cond entry stand)
 unfolding verdict_of
-verdict-balances program p cond entry stand no_phases =
-    balances-bind [] no_limit limit_carried _ (failure_verdict_from (place_of program p) cond) ((reached-tells (place_of program p) _ _).balances) (λ f. failed-balances program p cond f no_phases)
+verdict-balances program p cond entry stand is_plain =
+    balances-bind [] no_limit limit_carried _ (failure_verdict_from (place_of program p) cond) ((reached-tells (place_of program p) _ _).balances) (λ f. failed-balances program p cond f is_plain)
 
 -- ---- whose question it was
 

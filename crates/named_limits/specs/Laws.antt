@@ -1,12 +1,12 @@
 -- What holds of the limits that the stated analysis of a program names.
-use Rattle.std.specs.Prelude.{◌≡◌, List, [], false}
+use Rattle.std.specs.Prelude.{◌≡◌, List, []}
 use Rattle.farkas_check.specs.declared.answer.Answer.{Answer}
 use Rattle.farkas_check.specs.declared.question.Question.{Question}
 use Rattle.farkas_check.specs.Calm.{IsTame}
 use Rattle.farkas_check.specs.Meaning.{IsLimit}
 use Rattle.syntax_tree.specs.declared.program.Program.{Program}
 use Rattle.posing.specs.Posing.{Posing, Done, Path}
-use Rattle.phases.specs.Rules.{has_phases}
+use Rattle.phases.specs.Rules.{IsPlainRule}
 use Rattle.report.specs.declared.blocks.Report.{Report}
 use Rattle.report.specs.Claims.{ReportCovers}
 use Rattle.analysis.specs.declared.places.TextPlace.{TextPlace}
@@ -19,12 +19,13 @@ use Rattle.named_limits.specs.Named.{LimitsAreNamed}
 use Rattle.named_limits.specs.Reported.{HasNoLimit}
 
 -- where answers lead the analysis of a program, by its plan, to a report that covers it, and the
--- rule of the program has no phases, the limits of the answers are named. Under a rule with phases
--- an answer that is a limit may only let a split fall, which nothing tells
+-- rule of the program has neither phases nor facets, the limits of the answers are named. Under a
+-- rule with phases an answer that is a limit may only let a split fall, which nothing tells; under
+-- one with facets a limit of a hull is told that no answer gave
 abbrev pub AnalysisNamesLimits : Type 0
 AnalysisNamesLimits =
     (program : Program) (places : List TextPlace) (plan : List Planned) (answers : List Answer)
-    (report : Report) → has_phases program.rule ≡ false → IsPlan program plan
+    (report : Report) → IsPlainRule program.rule → IsPlan program plan
     → LeadsTo (report_by_plan program places plan) [] answers (Done report) → ReportCovers program report
     → LimitsAreNamed program plan answers report
 

@@ -4,4 +4,4 @@
 
 mod laws;
 
-pub use laws::{law_of_limitless_answers, law_of_named_limits, law_of_tame_questions};
+pub use laws::{analysis_names_limits, limitless_answers_name_none, tame_questions_name_none};

@@ -1,7 +1,6 @@
 -- The bases hold of the pairs of activations that make no call of the group.
-use Rattle.std.proofs.Common.{◌≡◌, ℕ, ◌<◌, ◌≤◌, ℤ, List, [], ◌∷◌, ◌++◌, length, map, take, Option, Some, refl, sym, ap, subst, ◌∙◌, append_assoc, length-append, arith}
+use Rattle.std.proofs.Common.{◌≡◌, ℕ, ◌<◌, ◌≤◌, ℤ, List, [], ◌∷◌, ◌++◌, length, map, take, Option, refl, sym, ap, subst, ◌∙◌, append_assoc, length-append, arith}
 use Rattle.std.specs.List.{AllZip}
-use Rattle.std.specs.Prelude.{slice_get}
 use Rattle.std.proofs.Math.Seq.{take-append_seam}
 use Rattle.std.proofs.lemmas.List.{length-map}
 use Rattle.std.proofs.lemmas.List.Elements.{All-from_recursion}
@@ -21,6 +20,7 @@ use Rattle.transition_formula.specs.Posts.{case_with_posts, numbers_at}
 use Rattle.transition_formula.specs.Transition.{IsTransition, Transition}
 use Rattle.transition_formula.proofs.PostsAsEntries.{equated-fits}
 use Rattle.transition_formula.proofs.SomePosts.{with_posts-fits}
+use Rattle.vocabularies.specs.Procs.{IsProcOf}
 use Rattle.flow_graph.specs.FlowGraph.{exit_of}
 use Rattle.flow_graph.specs.Heights.{ReturnsOver}
 use Rattle.flow_graph.specs.Laws.{last_of}
@@ -77,11 +77,11 @@ module _ (m : PairEnds) (ends : AreEnds m) (f : Option Transition) (fit : FitsIf
 pub record IsBase (program : Program) (known : List (Option Transition)) (p : Proc) (base : Transition) : Type 0 where
   pub goes : GoesBetween 1000 (pair_ends program p).pair.columns 0 base
   pub canonical : IsCanonicalFormula base
-  pub tells : (proc : ℕ) → slice_get program.procs proc ≡ Some p → (globals args after : State) (value : ℤ) → ReturnsOver (KnownCalls known) program proc globals args after value
+  pub tells : (proc : ℕ) → IsProcOf program proc p → (globals args after : State) (value : ℤ) → ReturnsOver (KnownCalls known) program proc globals args after value
       → Holds base ((globals ++ args) ++ exit_values p after value) []
 
 module _ (program : Program) (known : List (Option Transition)) (formed : IsWellFormed program) (are : AreKnown program known) where
-  module _ (proc : ℕ) (p : Proc) (is : slice_get program.procs proc ≡ Some p) where
+  module _ (proc : ℕ) (p : Proc) (is : IsProcOf program proc p) where
     abbrev m : PairEnds
     m = pair_ends program p
 

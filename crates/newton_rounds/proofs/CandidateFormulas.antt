@@ -16,12 +16,13 @@ use Rattle.syntax_tree.specs.WellFormed.{IsWellFormed}
 use Rattle.transition_formula.specs.Meaning.{Holds}
 use Rattle.transition_formula.specs.Posts.{numbers_at, with_entries}
 use Rattle.transition_formula.specs.Transition.{Transition, IsTransition, every_column, fits, is_below}
-use Rattle.transition_formula.proofs.Covered.{both_true}
+use Rattle.transition_formula.proofs.ColumnTests.{both_true}
 use Rattle.transition_formula.proofs.Fitting.{from_fitting}
 use Rattle.transition_formula.proofs.HiddenColumns.{hidden-fits, hidden-holds}
 use Rattle.transition_formula.proofs.SomePosts.{with_entries-fits, with_entries-least}
 use Rattle.leaf_cases.specs.Conditions.{IsKnown}
 use Rattle.vocabularies.specs.Ends.{value_width}
+use Rattle.vocabularies.specs.Procs.{IsProcOf}
 use Rattle.proc_summary.proofs.ExitSummaries.{entry-columns, exit-columns, numbers-range}
 use Rattle.newton_rounds.specs.Candidates.{candidate_formula, table_of}
 use Rattle.newton_rounds.specs.Closure.{pair_ends}
@@ -91,7 +92,7 @@ module _ (m : PairEnds) (ends : AreEnds m) (rows : List Row) (are : ArePairRows 
 
 -- ---- it may be known
 
-module _ (program : Program) (proc : ℕ) (p : Proc) (formed : IsWellFormed program) (is : slice_get program.procs proc ≡ Some p) where
+module _ (program : Program) (proc : ℕ) (p : Proc) (formed : IsWellFormed program) (is : IsProcOf program proc p) where
   exits-same : (returns : Bool) (globals : ℕ) → globals + value_width returns ≡ (if returns then globals + 1 else globals)
   exits-same true globals = refl
   exits-same false globals = omega arith

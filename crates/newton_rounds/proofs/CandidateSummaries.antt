@@ -7,7 +7,7 @@ use Rattle.items.proofs.Each.{each-more, test_from_each}
 use Rattle.linear_terms.specs.declared.row.Case.{Case}
 use Rattle.linear_terms.specs.declared.row.Row.{Row}
 use Rattle.transition_formula.specs.Transition.{Transition, every_column, fits, is_below}
-use Rattle.transition_formula.proofs.Covered.{both_true}
+use Rattle.transition_formula.proofs.ColumnTests.{both_true}
 use Rattle.transition_formula.proofs.Fitting.{from_fitting}
 use Rattle.posing.specs.Posing.{Done, each, Always}
 use Rattle.posing.proofs.Paths.{always_weaker}

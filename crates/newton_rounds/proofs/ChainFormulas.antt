@@ -16,7 +16,7 @@ use Rattle.transition_formula.specs.Composition.{sequence_of}
 use Rattle.transition_formula.specs.Hiding.{hidden_case}
 use Rattle.transition_formula.specs.Posts.{case_with_entries, with_entries}
 use Rattle.transition_formula.specs.Transition.{AreFew, AreSolvable, IsSolvable, IsTransition, Transition, fits}
-use Rattle.transition_formula.proofs.Fitted.{fits-solvable}
+use Rattle.transition_formula.proofs.FittedFormulas.{fits-solvable}
 use Rattle.transition_formula.proofs.Fitting.{sequence_of-fits}
 use Rattle.transition_formula.proofs.HiddenColumns.{hidden-fits}
 use Rattle.transition_formula.proofs.SomePosts.{with_entries-fits}

@@ -17,6 +17,7 @@ use Rattle.flow_graph.specs.declared.parts.Graph.{Graph}
 use Rattle.flow_graph.specs.FlowGraph.{Arc, FlowGraph, body_of, flow_of, graph_of}
 use Rattle.flow_graph.specs.Plain.{arc_of, plain}
 use Rattle.vocabularies.specs.Ends.{entry_of}
+use Rattle.vocabularies.specs.Procs.{IsProcOf}
 use Rattle.proc_summary.specs.Subject.{own_graph}
 use Rattle.newton_rounds.specs.Closure.{ends_at, ends_of_members, no_pair, pair_ends}
 use Rattle.newton_rounds.specs.Members.{GroupCall, call_by, call_to, calls_from, calls_of, members_of, place_of}
@@ -114,7 +115,7 @@ module _ (program : Program) where
       let there = some_at program.procs proc h.0 in
       (λ i. length (option_to_list (there.1 i) ++ members_of program procs)) ∙ ap suc (members-many procs h.1)
 
-  pub member-at : (procs : List ℕ) (i proc : ℕ) (p : Proc) → AreThere procs → slice_get procs i ≡ Some proc → slice_get program.procs proc ≡ Some p → slice_get (members_of program procs) i ≡ Some p
+  pub member-at : (procs : List ℕ) (i proc : ℕ) (p : Proc) → AreThere procs → slice_get procs i ≡ Some proc → IsProcOf program proc p → slice_get (members_of program procs) i ≡ Some p
   member-at [] i proc p h e is = absurd (cc e)
   member-at (q ∷ procs) zero proc p h e is =
       let same : q ≡ proc = cc in λ j. slice_get (option_to_list ((ap (slice_get program.procs) same ∙ is) j) ++ members_of program procs) 0
@@ -129,16 +130,16 @@ module _ (program : Program) where
     pub ends-many : length members ≡ length procs
     ends-many = length-map (members_of program procs) (pair_ends program) ∙ members-many procs there
 
-    pub ends-at : (i proc : ℕ) (p : Proc) → slice_get procs i ≡ Some proc → slice_get program.procs proc ≡ Some p → ends_at members i ≡ pair_ends program p
+    pub ends-at : (i proc : ℕ) (p : Proc) → slice_get procs i ≡ Some proc → IsProcOf program proc p → ends_at members i ≡ pair_ends program p
     ends-at i proc p e is =
         ap (λ o. unwrap_or o no_pair) (slice_get-map (pair_ends program) (members_of program procs) i ∙ ap (option_map (pair_ends program)) (member-at procs i proc p there e is))
 
-    pub columns-at : (i proc : ℕ) (p : Proc) → slice_get procs i ≡ Some proc → slice_get program.procs proc ≡ Some p → (ends_at members i).ends.full.columns ≡ width_of program p
+    pub columns-at : (i proc : ℕ) (p : Proc) → slice_get procs i ≡ Some proc → IsProcOf program proc p → (ends_at members i).ends.full.columns ≡ width_of program p
     columns-at i proc p e is = ap (λ (m : PairEnds). m.ends.full.columns) (ends-at i proc p e is) ∙ full-columns program p
 
     -- ---- the calls of all members
 
-    module _ (formed : IsWellFormed program) (caller proc : ℕ) (p : Proc) (at : slice_get procs caller ≡ Some proc) (is : slice_get program.procs proc ≡ Some p) where
+    module _ (formed : IsWellFormed program) (caller proc : ℕ) (p : Proc) (at : slice_get procs caller ≡ Some proc) (is : IsProcOf program proc p) where
       act-in : (way : Arc) (s : Statement) → EdgeFits program (width_of program p) s → AllByRecursion (IsCallIn members) (call_by procs caller way s)
       act-in way (Call q args into) fit = go (place_of q procs) refl
         where
@@ -205,7 +206,7 @@ each-mapped P f [] h = tt
 each-mapped P f (x ∷ xs) h = (h.0, each-mapped P f xs h.1)
 
 -- the calls of a procedure by the graph that is made
-module _ (program : Program) (proc : ℕ) (p : Proc) (is : slice_get program.procs proc ≡ Some p) (g : Graph) (same : plain g ≡ graph_of program proc) where
+module _ (program : Program) (proc : ℕ) (p : Proc) (is : IsProcOf program proc p) (g : Graph) (same : plain g ≡ graph_of program proc) where
   as-own : plain g ≡ own_graph p
   as-own = same ∙ ap (λ (o : Option Proc). flow_of (body_of o)) is
 

@@ -9,7 +9,7 @@ use Rattle.std.proofs.lemmas.Option.{slice_get-map}
 use Rattle.items.proofs.Each.{each-both, each-get, each-map, each-more, each_from_test}
 use Rattle.linear_terms.specs.declared.row.Case.{Case}
 use Rattle.transition_formula.specs.Transition.{AreSolvable, IsSolvable, IsTransition, Transition, fits}
-use Rattle.transition_formula.proofs.Fitted.{fits-solvable}
+use Rattle.transition_formula.proofs.FittedFormulas.{fits-solvable}
 use Rattle.path_expr.specs.declared.cell.Cell.{Cell}
 use Rattle.path_expr.specs.declared.cell.Cell.TheVariants as known
 use Rattle.path_expr.specs.declared.link.Link.{Link}

@@ -1,7 +1,7 @@
 -- The members of a group, its calls and both sides of them.
 use Rattle.std.proofs.Common.{◌≡◌, ℕ, zero, suc, ◌+◌, ◌*◌, ◌<◌, ◌≤◌, ◌^◌, length, length-append, map, List, [], ◌∷◌, ◌++◌, refl, sym, ap, subst, ◌∙◌, arith}
 use Rattle.std.specs.Prelude.{All, Option, None, Some, option_to_list}
-use Rattle.std.specs.List.{AllByRecursion, Contains, flat_map, slice_get}
+use Rattle.std.specs.List.{AllByRecursion, Contains, flat_map}
 use Rattle.std.proofs.lemmas.List.{length-map}
 use Rattle.items.proofs.Each.{each-get, each-map, each-more}
 use Rattle.polyhedra.specs.Vocabulary.{Vocabulary}
@@ -13,6 +13,7 @@ use Rattle.flow_graph.specs.FlowGraph.{Arc}
 use Rattle.vocabularies.specs.Ends.{entry_of, entry_width, exit_width, pair_of, value_width}
 use Rattle.vocabularies.specs.Ends as ends
 use Rattle.vocabularies.proofs.Columns.{IsVocabulary-below}
+use Rattle.vocabularies.specs.Procs.{IsProcOf}
 use Rattle.checked_tree.specs.Law.{IsEnd}
 use Rattle.proc_summary.specs.Subject.{own_graph}
 use Rattle.proc_summary.proofs.Graphs.{few-arcs}
@@ -32,7 +33,7 @@ use Rattle.newton_rounds.proofs.Widths.{ends-are}
 -- ---- members
 
 module _ (program : Program) (formed : IsWellFormed program) where
-  pub member-is : (proc : ℕ) (p : Proc) → slice_get program.procs proc ≡ Some p → IsMember (pair_ends program p)
+  pub member-is : (proc : ℕ) (p : Proc) → IsProcOf program proc p → IsMember (pair_ends program p)
   unfolding entry_of ends.exit_of pair_of
   member-is proc p is =
       let fit = proc-fit program proc p formed is in
@@ -47,7 +48,7 @@ module _ (program : Program) (formed : IsWellFormed program) where
       }
 
   -- what is so of each procedure's ends is so of the members'
-  pub members-have : (P : PairEnds → Type 0) → ((proc : ℕ) (p : Proc) → slice_get program.procs proc ≡ Some p → P (pair_ends program p)) → (procs : List ℕ) → AreThere program procs → AllByRecursion P (ends_of_members program procs)
+  pub members-have : (P : PairEnds → Type 0) → ((proc : ℕ) (p : Proc) → IsProcOf program proc p → P (pair_ends program p)) → (procs : List ℕ) → AreThere program procs → AllByRecursion P (ends_of_members program procs)
   members-have P tells [] h = tt
   members-have P tells (proc ∷ procs) h =
       let there = some_at program.procs proc h.0 in

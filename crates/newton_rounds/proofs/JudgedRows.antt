@@ -1,6 +1,6 @@
 -- One round: what it keeps, and that rows are true of one more unfolding where it drops none.
 use Rattle.std.proofs.Common.{◌≡◌, ℕ, ◌+◌, ◌≤◌, ℤ, List, [], ◌∷◌, ◌++◌, length, map, Option, None, Some, refl, sym, subst, append-nil, append_assoc, arith}
-use Rattle.std.specs.Prelude.{IsTrue, slice_get}
+use Rattle.std.specs.Prelude.{IsTrue}
 use Rattle.std.specs.List.{AllByRecursion, AllZip, cons_option, filter_map, flat_map}
 use Rattle.std.proofs.lemmas.List.Elements.{All-from_recursion}
 use Rattle.items.proofs.Each.{each-any, each-both, each-more, each_from_test}
@@ -31,7 +31,8 @@ use Rattle.recurrence.proofs.CanonicalOrder.{IsCanonicalFormula}
 use Rattle.newton_rounds.proofs.CandidateRows.{ArePairRows, IsPairRow}
 use Rattle.newton_rounds.proofs.MemberTables.{IsProcedure}
 use Rattle.posing.proofs.Paths.{always_any, always_bind, always_weaker}
-use Rattle.posing.proofs.Under.{passing-always, under-bind, under-each, under-weaker}
+use Rattle.posing.proofs.UnderAnswers.{passing-always, under-bind, under-each, under-weaker}
+use Rattle.vocabularies.specs.Procs.{IsProcOf}
 use Rattle.newton_rounds.proofs.ExitColumns.{exit-few}
 use Rattle.newton_rounds.proofs.MatchLoops.{IsBehind, each-part_match}
 use Rattle.newton_rounds.proofs.TrueRows.{Entails, pair_numbers, refuted-entails}
@@ -130,7 +131,7 @@ module _ (program : Program) (formed : IsWellFormed program) where
   -- say
   abbrev pub IsTrueOf : List (Option Transition) → Proc → Row → Type 0
   IsTrueOf known p row =
-      (proc : ℕ) → slice_get program.procs proc ≡ Some p → (globals args after : State) (value : ℤ) → ReturnsOver (KnownCalls known) program proc globals args after value
+      (proc : ℕ) → IsProcOf program proc p → (globals args after : State) (value : ℤ) → ReturnsOver (KnownCalls known) program proc globals args after value
       → RowHolds (pair_numbers ((globals ++ args) ++ exit_values p after value)) row
 
   -- a candidate for each member, of rows over its pairs
@@ -163,7 +164,7 @@ module _ (program : Program) (formed : IsWellFormed program) where
 
     -- it does not matter by which number the procedure goes
     abbrev pub IsUnfoldingOf : Proc → Transition → Type 0
-    IsUnfoldingOf p f = (number : (proc : ℕ) × (slice_get program.procs proc ≡ Some p)) → IsUnfolded program number.0 p known number.1 formed are f
+    IsUnfoldingOf p f = (number : (proc : ℕ) × (IsProcOf program proc p)) → IsUnfolded program number.0 p known number.1 formed are f
 
     abbrev IsMade : Proc × List Row → Transition → Type 0
     IsMade m f = IsUnfoldingOf m.0 f
@@ -171,7 +172,7 @@ module _ (program : Program) (formed : IsWellFormed program) where
     every-number : (p : Proc) → Always (IsUnfoldingOf p) (unfolded_formula program known p)
     every-number p =
         always_every (λ number f. IsUnfolded program number.0 p known number.1 formed are f) (unfolded_formula program known p)
-        (λ (number : (proc : ℕ) × (slice_get program.procs proc ≡ Some p)). unfolded-tells program number.0 p known number.1 formed are)
+        (λ (number : (proc : ℕ) × (IsProcOf program proc p)). unfolded-tells program number.0 p known number.1 formed are)
 
     member-judged : (p : Proc) (rows : List Row) → IsProcedure program p → ArePairRows (columns_of_pair p) rows → (f : Transition)
         → IsUnfoldingOf p f → AlwaysPassing (AreJudged (IsTrueOf known p) rows) (each (with_judged f) [] rows)

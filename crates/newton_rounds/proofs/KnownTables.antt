@@ -8,6 +8,7 @@ use Rattle.std.proofs.lemmas.List.{drop_more, length-set}
 use Rattle.syntax_tree.specs.declared.program.Proc.{Proc}
 use Rattle.syntax_tree.specs.declared.program.Program.{Program}
 use Rattle.transition_formula.specs.Transition.{Transition}
+use Rattle.vocabularies.specs.Procs.{IsProcOf}
 use Rattle.leaf_cases.specs.Conditions.{AreKnown, IsKnown}
 use Rattle.newton_rounds.specs.Members.{with_table}
 
@@ -24,7 +25,7 @@ set-get (z ∷ xs) (suc i) (suc j) x y e = go (set-get xs i j x y e)
 
 module _ (program : Program) where
   abbrev Fits : ℕ → Option Transition → Type 0
-  Fits proc o = (p : Proc) (f : Transition) → slice_get program.procs proc ≡ Some p → o ≡ Some f → IsKnown program p f
+  Fits proc o = (p : Proc) (f : Transition) → IsProcOf program proc p → o ≡ Some f → IsKnown program p f
 
   with-one : (known : List (Option Transition)) (proc : ℕ) (o : Option Transition) → Fits proc o → AreKnown program known → AreKnown program (slice_set known proc o)
   with-one known proc o tells are = record {
@@ -32,14 +33,14 @@ module _ (program : Program) where
     fit = λ place p f there is. go place p f there (set-get known proc place o (Some f) is);
   }
     where
-      go : (place : ℕ) (p : Proc) (f : Transition) → slice_get program.procs place ≡ Some p → ((proc ≡ place) × (o ≡ Some f)) ⊎ (slice_get known place ≡ Some (Some f)) → IsKnown program p f
+      go : (place : ℕ) (p : Proc) (f : Transition) → IsProcOf program place p → ((proc ≡ place) × (o ≡ Some f)) ⊎ (slice_get known place ≡ Some (Some f)) → IsKnown program p f
       go place p f there (inl same) = tells p f (ap (slice_get program.procs) same.0 ∙ there) same.1
       go place p f there (inr other) = are.fit place p f there other
 
   -- the formulas of a table fit the procedures of these numbers
   abbrev pub AreFor : List ℕ → List Transition → Type 0
   AreFor procs table =
-      (place proc : ℕ) (p : Proc) (f : Transition) → slice_get procs place ≡ Some proc → slice_get program.procs proc ≡ Some p → slice_get table place ≡ Some f → IsKnown program p f
+      (place proc : ℕ) (p : Proc) (f : Transition) → slice_get procs place ≡ Some proc → IsProcOf program proc p → slice_get table place ≡ Some f → IsKnown program p f
 
   none-some : {f : Transition} → None ≡ Some f → ⊥
   none-some e = absurd (false≢true (ap is_some e))

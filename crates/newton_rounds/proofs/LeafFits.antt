@@ -27,6 +27,7 @@ use Rattle.leaf_cases.proofs.Graphs.{CallFits, EdgeFits, act-fits}
 use Rattle.leaf_cases.proofs.Guards.{guard_fits, truth_covered}
 use Rattle.checked_tree.specs.Law.{HaveCanonicalLeaves, IsEvaluated}
 use Rattle.polyhedra.specs.Laws.{HaveCanonicalRows}
+use Rattle.vocabularies.specs.Procs.{IsProcOf}
 use Rattle.proc_summary.specs.Parts.{IsFit}
 use Rattle.proc_summary.specs.Subject.{arc_leaf, graph_by, link_of, own_graph, subject_of}
 use Rattle.proc_summary.proofs.Graphs.{graph-is, is-evaluated}
@@ -76,7 +77,7 @@ module _ (program : Program) (width : ℕ) (wide : length program.globals ≤ wi
 
 -- ---- the graph of a procedure
 
-module _ (program : Program) (proc : ℕ) (p : Proc) (known : List (Option Transition)) (is : slice_get program.procs proc ≡ Some p) (formed : IsWellFormed program) (are : AreKnown program known) where
+module _ (program : Program) (proc : ℕ) (p : Proc) (known : List (Option Transition)) (is : IsProcOf program proc p) (formed : IsWellFormed program) (are : AreKnown program known) where
   wide-enough : length program.globals ≤ width_of program p
   wide-enough = omega arith
 

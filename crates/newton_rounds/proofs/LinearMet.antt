@@ -29,6 +29,7 @@ use Rattle.leaf_cases.proofs.MetCalls.{met_calls_are_known, returns-globals}
 use Rattle.checked_tree.specs.Graph.{leaf_at}
 use Rattle.checked_tree.specs.Law.{HaveCanonicalLeaves}
 use Rattle.polyhedra.specs.Laws.{HaveCanonicalRows}
+use Rattle.vocabularies.specs.Procs.{IsProcOf}
 use Rattle.proc_summary.specs.Claims.{FitsIf, HoldsIf}
 use Rattle.proc_summary.specs.Subject.{own_graph}
 use Rattle.proc_summary.proofs.Graphs.{full-columns, graph-is, length-after}
@@ -102,7 +103,7 @@ module _ (program : Program) (procs : List ℕ) (known : List (Option Transition
     pub proc : ℕ
     pub at : slice_get procs place ≡ Some proc
     pub p : Proc
-    pub is : slice_get program.procs proc ≡ Some p
+    pub is : IsProcOf program proc p
 
   member-found : (place : ℕ) → place < length members → MemberAt place
   member-found place lt =
@@ -173,13 +174,13 @@ module _ (program : Program) (procs : List ℕ) (known : List (Option Transition
       LedToBase : CallMeaning
       LedToBase proc globals args after value =
           Returns program proc globals args after value
-          × ((place : ℕ) (p : Proc) → slice_get procs place ≡ Some proc → slice_get program.procs proc ≡ Some p → Leads place ((globals ++ args) ++ exit_values p after value))
+          × ((place : ℕ) (p : Proc) → slice_get procs place ≡ Some proc → IsProcOf program proc p → Leads place ((globals ++ args) ++ exit_values p after value))
 
       returned : (proc : ℕ) (globals args after : State) (value : ℤ) → LedToBase proc globals args after value → Returns program proc globals args after value
       unfolding LedToBase
       returned proc globals args after value both = both.0
 
-      led : (proc : ℕ) (globals args after : State) (value : ℤ) → LedToBase proc globals args after value → (place : ℕ) (p : Proc) → slice_get procs place ≡ Some proc → slice_get program.procs proc ≡ Some p
+      led : (proc : ℕ) (globals args after : State) (value : ℤ) → LedToBase proc globals args after value → (place : ℕ) (p : Proc) → slice_get procs place ≡ Some proc → IsProcOf program proc p
           → Leads place ((globals ++ args) ++ exit_values p after value)
       unfolding LedToBase
       led proc globals args after value both = both.1
@@ -218,7 +219,7 @@ module _ (program : Program) (procs : List ℕ) (known : List (Option Transition
 
       -- ---- one activation of a member
 
-      module _ (place proc : ℕ) (p : Proc) (at : slice_get procs place ≡ Some proc) (is : slice_get program.procs proc ≡ Some p) where
+      module _ (place proc : ℕ) (p : Proc) (at : slice_get procs place ≡ Some proc) (is : IsProcOf program proc p) where
         abbrev arcs : List Arc
         arcs = (own_graph p).arcs
 
@@ -295,7 +296,7 @@ module _ (program : Program) (procs : List ℕ) (known : List (Option Transition
             abbrev answer : List ℤ
             answer = (passed ++ relates.values) ++ exit_values q relates.left relates.value
 
-            q_is : slice_get program.procs c ≡ Some q
+            q_is : IsProcOf program c q
             q_is = callee_returns.begins.entered.is
 
             tail : Leads callee answer
@@ -426,7 +427,7 @@ module _ (program : Program) (procs : List ℕ) (known : List (Option Transition
         λ place p at is. led-here place proc p at is globals args after value r,
       )
 
-      leads : (proc : ℕ) (globals args after : State) (value : ℤ) → Returns program proc globals args after value → (place : ℕ) (p : Proc) → slice_get procs place ≡ Some proc → slice_get program.procs proc ≡ Some p
+      leads : (proc : ℕ) (globals args after : State) (value : ℤ) → Returns program proc globals args after value → (place : ℕ) (p : Proc) → slice_get procs place ≡ Some proc → IsProcOf program proc p
           → Leads place ((globals ++ args) ++ exit_values p after value)
       leads proc globals args after value returns =
           let tree = (returns_have_heights program proc globals args after value).0 returns in

@@ -6,6 +6,7 @@ use Rattle.std.proofs.lemmas.List.{length-set}
 use Rattle.syntax_tree.specs.declared.program.Proc.{Proc}
 use Rattle.syntax_tree.specs.declared.program.Program.{Program}
 use Rattle.transition_formula.specs.Transition.{Transition}
+use Rattle.vocabularies.specs.Procs.{IsProcOf}
 use Rattle.newton_rounds.specs.Alike.{StandOnce}
 use Rattle.newton_rounds.specs.Members.{members_of, with_table}
 use Rattle.newton_rounds.proofs.CratesBelow.{some_at}
@@ -16,12 +17,12 @@ use Rattle.newton_rounds.proofs.KnownTables.{set-get}
 
 module _ (program : Program) where
   -- a procedure of the group, and then the others
-  pub first-member : (proc : ℕ) (procs : List ℕ) (p : Proc) → slice_get program.procs proc ≡ Some p → members_of program (proc ∷ procs) ≡ p ∷ members_of program procs
+  pub first-member : (proc : ℕ) (procs : List ℕ) (p : Proc) → IsProcOf program proc p → members_of program (proc ∷ procs) ≡ p ∷ members_of program procs
   first-member proc procs p there = ap (λ o. option_to_list o ++ members_of program procs) there
 
   -- each member is a procedure of the program
   abbrev pub IsProcedure : Proc → Type 0
-  IsProcedure p = (proc : ℕ) × (slice_get program.procs proc ≡ Some p)
+  IsProcedure p = (proc : ℕ) × (IsProcOf program proc p)
 
   pub each-member : (procs : List ℕ) → AreThere program procs → AllByRecursion IsProcedure (members_of program procs)
   each-member [] all = tt

@@ -20,8 +20,8 @@ use Rattle.linear_terms.proofs.Columns.{multiple_of-each, sum_of_polys-each}
 use Rattle.transition_formula.specs.Hiding.{own_auxiliaries}
 use Rattle.transition_formula.specs.Loss.{answer_of}
 use Rattle.transition_formula.specs.Transition.{every_column, fits, is_below, IsSolvable}
-use Rattle.transition_formula.proofs.Covered.{both, both_true, columns_from_test, every_column-Decides, more_columns, substituted-carries, test_from_columns}
-use Rattle.transition_formula.proofs.Fitted.{fits-solvable}
+use Rattle.transition_formula.proofs.ColumnTests.{both, both_true, columns_from_test, every_column-Decides, more_columns, substituted-carries, test_from_columns}
+use Rattle.transition_formula.proofs.FittedFormulas.{fits-solvable}
 use Rattle.transition_formula.proofs.Fitting.{below-true, columns_pass, fitting, from_fitting, test_of_get, true-below}
 use Rattle.leaf_cases.specs.Guard.{columns_of}
 use Rattle.newton_rounds.specs.Candidates.{against, contrary}

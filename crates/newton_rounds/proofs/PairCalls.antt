@@ -20,7 +20,7 @@ use Rattle.transition_formula.specs.Composition.{sequence_of}
 use Rattle.transition_formula.specs.Meaning.{Holds, HoldsSome, numbers}
 use Rattle.transition_formula.specs.Posts.{numbers_at}
 use Rattle.transition_formula.specs.Transition.{IsTransition, Transition, fits, is_below}
-use Rattle.transition_formula.proofs.Covered.{both}
+use Rattle.transition_formula.proofs.ColumnTests.{both}
 use Rattle.transition_formula.proofs.Fitting.{fitting}
 use Rattle.transition_formula.proofs.Meanings.{sequence-holds}
 use Rattle.transition_formula.proofs.PostsAsEntries.{StandFrom, equated-holds}

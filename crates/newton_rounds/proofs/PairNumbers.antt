@@ -11,7 +11,7 @@ use Rattle.transition_formula.specs.Composition.{after_case, sequence_of_cases}
 use Rattle.transition_formula.specs.Hiding.{hidden_case, hiding}
 use Rattle.transition_formula.specs.Loss.{answer_of}
 use Rattle.transition_formula.specs.Transition.{Transition, fits, IsTransition}
-use Rattle.transition_formula.proofs.Covered.{both}
+use Rattle.transition_formula.proofs.ColumnTests.{both}
 use Rattle.transition_formula.proofs.Fitting.{fitting}
 use Rattle.proc_summary.specs.Claims.{FitsIf, IsBetweenStates}
 use Rattle.proc_summary.specs.Summary.{exit_formula}

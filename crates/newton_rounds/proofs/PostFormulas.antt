@@ -9,7 +9,7 @@ use Rattle.linear_terms.specs.declared.col.Col.TheVariants.{At, Aux}
 use Rattle.linear_terms.specs.declared.row.Case.{Case}
 use Rattle.linear_terms.specs.Polynomial.{Polynomial, column_of}
 use Rattle.transition_formula.specs.Transition.{every_column, fits, is_below, IsTransition}
-use Rattle.transition_formula.proofs.Covered.{both, both_true, test_from_columns}
+use Rattle.transition_formula.proofs.ColumnTests.{both, both_true, test_from_columns}
 use Rattle.transition_formula.proofs.Fitting.{Fitting, below-true, columns_pass, fitting, from_fitting, test_of_get}
 use Rattle.transition_formula.proofs.PostsAsEntries.{raised-fits}
 use Rattle.leaf_cases.specs.Edges.{posts_with_value}

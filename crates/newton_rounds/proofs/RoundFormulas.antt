@@ -10,7 +10,7 @@ use Rattle.std.proofs.lemmas.Bool.{leb-true}
 use Rattle.std.proofs.lemmas.List.{length-map}
 use Rattle.linear_terms.specs.declared.row.Row.{Row}
 use Rattle.transition_formula.specs.Transition.{Transition}
-use Rattle.transition_formula.proofs.Covered.{both}
+use Rattle.transition_formula.proofs.ColumnTests.{both}
 use Rattle.posing.specs.Posing.{Posing, Done, Noted, ◌>>=◌, each, until, Always}
 use Rattle.posing.proofs.Paths.{always_bind, always_until, always_weaker}
 use Rattle.syntax_tree.specs.declared.program.Proc.{Proc}

@@ -16,6 +16,7 @@ use Rattle.posing.proofs.Paths.{always_any, always_bind, always_each, always_wea
 use Rattle.syntax_tree.specs.declared.program.Proc.{Proc}
 use Rattle.syntax_tree.specs.declared.program.Program.{Program}
 use Rattle.vocabularies.specs.Ends.{value_width}
+use Rattle.vocabularies.specs.Procs.{IsProcOf}
 use Rattle.proc_summary.proofs.ExitSummaries.{entry-columns, exit-columns}
 use Rattle.syntax_tree.specs.Code.{Statement, Set, Any, Call, Guard, Check, If, Loop, Break, Continue, Return}
 use Rattle.syntax_tree.specs.Value.{State}
@@ -48,7 +49,7 @@ use Rattle.newton_rounds.proofs.CandidateFormulas.{candidate-holds, candidate-kn
 use Rattle.newton_rounds.proofs.CandidateRows.{ArePairRows, candidate-rows}
 use Rattle.newton_rounds.proofs.JudgedRows.{AreAllJudged, AreCandidates, AreTrueOf, IsTrueOf, IsUnfoldingOf, all-judged, all-of, all-ready, all-unfolded, kept-candidates, kept-true}
 use Rattle.newton_rounds.proofs.MemberTables.{IsKnownAt, each-member, table-either, table-keeps, table-knows}
-use Rattle.posing.proofs.Under.{IsRound, passing-always, under-bind, under-both, under-until}
+use Rattle.posing.proofs.UnderAnswers.{IsRound, passing-always, under-bind, under-both, under-until}
 use Rattle.newton_rounds.proofs.TrueRows.{pair_numbers}
 use Rattle.newton_rounds.proofs.KnownTables.{AreFor, tabled-known}
 use Rattle.newton_rounds.proofs.ToldCalls.{TellsArcs, TellsCall, returns-told}
@@ -163,13 +164,13 @@ module _ (program : Program) (procs : List ℕ) (known : List (Option Transition
   known_with candidates = with_table procs (table candidates) known
 
   -- the formula at a place of a group is a candidate's
-  table-found : (candidates : List (List Row)) → (place proc : ℕ) (p : Proc) (f : Transition) → slice_get procs place ≡ Some proc → slice_get program.procs proc ≡ Some p → slice_get (table candidates) place ≡ Some f
+  table-found : (candidates : List (List Row)) → (place proc : ℕ) (p : Proc) (f : Transition) → slice_get procs place ≡ Some proc → IsProcOf program proc p → slice_get (table candidates) place ≡ Some f
       → (rows : List Row) × (slice_get candidates place ≡ Some rows) × (f ≡ candidate_formula (pair_ends program p) rows)
   table-found candidates place proc p f e is g =
       table-at (map (pair_ends program) ps) candidates place (pair_ends program p) f (slice_get-map (pair_ends program) ps place ∙ ap (option_map (pair_ends program)) (member-at program procs place proc p there e is)) g
 
   module _ (candidates : List (List Row)) (over : AreCandidates program formed ps candidates) where
-    rows-at : (place proc : ℕ) (p : Proc) (rows : List Row) → slice_get procs place ≡ Some proc → slice_get program.procs proc ≡ Some p → slice_get candidates place ≡ Some rows → ArePairRows (pair_ends program p).pair.columns rows
+    rows-at : (place proc : ℕ) (p : Proc) (rows : List Row) → slice_get procs place ≡ Some proc → IsProcOf program proc p → slice_get candidates place ≡ Some rows → ArePairRows (pair_ends program p).pair.columns rows
     rows-at place proc p rows e is g = candidate-at program formed ps candidates over place p rows (member-at program procs place proc p there e is) g
 
     table-for : AreFor program procs (table candidates)
@@ -195,7 +196,7 @@ module _ (program : Program) (procs : List ℕ) (known : List (Option Transition
   -- and each formula holds of the activations of its procedure
   abbrev IsToldBy : List (Option Transition) → Proc → Transition → Type 0
   IsToldBy all p f =
-      (proc : ℕ) → slice_get program.procs proc ≡ Some p → (globals args after : State) (value : ℤ) → ReturnsOver (KnownCalls all) program proc globals args after value
+      (proc : ℕ) → IsProcOf program proc p → (globals args after : State) (value : ℤ) → ReturnsOver (KnownCalls all) program proc globals args after value
       → Holds f (globals ++ args) (exit_values p after value)
 
   abbrev AreToldBy : List (Option Transition) → List Proc → List Transition → Type 0
@@ -265,14 +266,14 @@ module _ (program : Program) (procs : List ℕ) (known : List (Option Transition
     RowsTrue : CallMeaning
     RowsTrue proc globals args after value =
         Returns program proc globals args after value
-        × ((place : ℕ) (p : Proc) (rows : List Row) → slice_get procs place ≡ Some proc → slice_get program.procs proc ≡ Some p → slice_get kept place ≡ Some rows → RowsHold (pair_numbers ((globals ++ args) ++ exit_values p after value)) rows)
+        × ((place : ℕ) (p : Proc) (rows : List Row) → slice_get procs place ≡ Some proc → IsProcOf program proc p → slice_get kept place ≡ Some rows → RowsHold (pair_numbers ((globals ++ args) ++ exit_values p after value)) rows)
 
     returned : {proc : ℕ} {globals args after : State} {value : ℤ} → RowsTrue proc globals args after value → Returns program proc globals args after value
     unfolding RowsTrue
     returned both = both.0
 
     -- the formula that the candidate is holds of it
-    formula-true : (proc : ℕ) (globals args after : State) (value : ℤ) → RowsTrue proc globals args after value → (place : ℕ) (p : Proc) (f : Transition) → slice_get procs place ≡ Some proc → slice_get program.procs proc ≡ Some p
+    formula-true : (proc : ℕ) (globals args after : State) (value : ℤ) → RowsTrue proc globals args after value → (place : ℕ) (p : Proc) (f : Transition) → slice_get procs place ≡ Some proc → IsProcOf program proc p
         → slice_get (table kept) place ≡ Some f → Holds f (globals ++ args) (exit_values p after value)
     unfolding RowsTrue
     formula-true proc globals args after value both place p f e is g =
@@ -308,7 +309,7 @@ module _ (program : Program) (procs : List ℕ) (known : List (Option Transition
           holds = subst (λ l. Holds at.0 (globals ++ args) l) (sym (ap (λ n. take n (left ++ value ∷ [])) to ∙ exits)) (go callee there (table-either procs (table kept) known proc at.0 at.1));
         }
       where
-        go : (callee : Proc) → slice_get program.procs proc ≡ Some callee → ((place : ℕ) × (slice_get procs place ≡ Some proc) × (slice_get (table kept) place ≡ Some at.0)) ⊎ (slice_get known proc ≡ Some (Some at.0))
+        go : (callee : Proc) → IsProcOf program proc callee → ((place : ℕ) × (slice_get procs place ≡ Some proc) × (slice_get (table kept) place ≡ Some at.0)) ⊎ (slice_get known proc ≡ Some (Some at.0))
             → Holds at.0 (globals ++ args) (exit_values callee left value)
         go callee is (inl found) = formula-true proc globals args left value both found.0 callee at.0 found.1 is found.2
         go callee is (inr older) = met proc at.0 older callee is globals args left value both.0
@@ -329,7 +330,7 @@ module _ (program : Program) (procs : List ℕ) (known : List (Option Transition
     act-told Continue h = tt
     act-told Return h = tt
 
-    arcs-told : (place proc : ℕ) (p : Proc) → slice_get procs place ≡ Some proc → (is : slice_get program.procs proc ≡ Some p) → TellsArcs RowsTrue (KnownCalls (known_with kept)) (graph_of program proc).arcs
+    arcs-told : (place proc : ℕ) (p : Proc) → slice_get procs place ≡ Some proc → (is : IsProcOf program proc p) → TellsArcs RowsTrue (KnownCalls (known_with kept)) (graph_of program proc).arcs
     arcs-told place proc p e is =
         subst (λ (f : FlowGraph). TellsArcs RowsTrue (KnownCalls (known_with kept)) f.arcs) (sym (graph-is program proc p known is))
         (each-more (λ (way : Arc). CallsMember procs way.act ⊎ KnowsCallee known way.act) (λ (way : Arc). TellsCall RowsTrue (KnownCalls (known_with kept)) way.act) (λ way h. act-told way.act h) (own_graph p).arcs (knows place proc p e is))

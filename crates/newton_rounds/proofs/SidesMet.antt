@@ -13,6 +13,7 @@ use Rattle.syntax_tree.specs.Code.{Statement, Set, Any, Call, Guard, Check, If, 
 use Rattle.syntax_tree.specs.Value.{State}
 use Rattle.syntax_tree.specs.WellFormed.{IsWellFormed, width_of}
 use Rattle.transition_formula.specs.Transition.{Transition}
+use Rattle.vocabularies.specs.Procs.{IsProcOf}
 use Rattle.flow_graph.specs.FlowGraph.{Arc, exit_of}
 use Rattle.flow_graph.specs.Walks.{Stride, Walks}
 use Rattle.flow_graph.proofs.Within.{arcs_within}
@@ -71,7 +72,7 @@ pub record IsSide (program : Program) (p : Proc) (known : List (Option Transitio
   pub goes_on : (path : List Stride) (back final : State) → length back ≡ width_of program p →
       Walks (KnownCalls known) (length program.globals) (own_graph p).arcs call.to back path (exit_of (code_of p.body)) final → HoldsIf one.after back final
 
-module _ (program : Program) (proc : ℕ) (p : Proc) (known : List (Option Transition)) (is : slice_get program.procs proc ≡ Some p) (formed : IsWellFormed program) (are : AreKnown program known) where
+module _ (program : Program) (proc : ℕ) (p : Proc) (known : List (Option Transition)) (is : IsProcOf program proc p) (formed : IsWellFormed program) (are : AreKnown program known) where
   exit-there : exit_of (code_of p.body) < (own_graph p).nodes
   exit-there = omega arith
 
@@ -130,7 +131,7 @@ module _ (program : Program) (procs : List ℕ) (known : List (Option Transition
   -- the members from a place on
   abbrev StandAt : ℕ → List Proc → Type 0
   StandAt place [] = Unit {0}
-  StandAt place (p ∷ ps) = ((proc : ℕ) × (slice_get program.procs proc ≡ Some p)) × (slice_get (members_of program procs) place ≡ Some p) × StandAt (place + 1) ps
+  StandAt place (p ∷ ps) = ((proc : ℕ) × (IsProcOf program proc p)) × (slice_get (members_of program procs) place ≡ Some p) × StandAt (place + 1) ps
 
   own-sides : (place : ℕ) (p : Proc) → slice_get (members_of program procs) place ≡ Some p → (call : GroupCall) (one : Sides) → call.caller ≡ place → IsSide program p known call one → IsSideOf call one
   own-sides place p at call one same h q e =

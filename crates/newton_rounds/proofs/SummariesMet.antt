@@ -12,7 +12,7 @@ use Rattle.newton_rounds.specs.Laws.{SummariesAreMet}
 use Rattle.newton_rounds.specs.Members.{IsLinear, members_of, with_table}
 use Rattle.newton_rounds.proofs.BasesMet.{IsBase}
 use Rattle.newton_rounds.proofs.LinearMet.{bases-met, closure-met}
-use Rattle.posing.proofs.Under.{passing-always, under-bind}
+use Rattle.posing.proofs.UnderAnswers.{passing-always, under-bind}
 use Rattle.newton_rounds.proofs.RoundsMet.{closed_by_rounds-met}
 
 pub summaries-met : SummariesAreMet

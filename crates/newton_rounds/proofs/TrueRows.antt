@@ -47,7 +47,7 @@ use Rattle.newton_rounds.specs.Candidates.{against, contrary, findings_in, found
 use Rattle.newton_rounds.specs.Shapes.{IsOverPairs, IsRefutable}
 use Rattle.recurrence.proofs.CanonicalOrder.{IsCanonicalCase, IsCanonicalFormula, IsCanonicalRow}
 use Rattle.newton_rounds.proofs.Opposite.{against-solvable, negation-covered}
-use Rattle.posing.proofs.Under.{under-bind, under-each, under-weaker}
+use Rattle.posing.proofs.UnderAnswers.{under-bind, under-each, under-weaker}
 
 -- the numbers of a pair; a row of a candidate has no auxiliaries
 abbrev pub pair_numbers : List ℤ → Valuation

@@ -26,6 +26,7 @@ use Rattle.posing.proofs.Paths.{always_bind, always_weaker}
 use Rattle.recurrence.proofs.StarLaws.{always_both}
 use Rattle.vocabularies.specs.Ends.{entry_of, entry_width, full_of}
 use Rattle.vocabularies.specs.Ends as ends
+use Rattle.vocabularies.specs.Procs.{IsProcOf}
 use Rattle.checked_tree.specs.Evaluation.{evaluated_cells, settled_and_fitted}
 use Rattle.checked_tree.specs.Law.{HoldsCell, IsBetweenEnds}
 use Rattle.checked_tree.proofs.Between.{settled_and_fitted-between, settled_and_fitted-covers}
@@ -79,7 +80,7 @@ cell-tells columns found.Zero before after long h = h
 cell-tells columns found.One before after long h = identity-holds columns before after h long
 cell-tells columns (found.Item t) before after long h = h
 
-module _ (program : Program) (proc : ℕ) (p : Proc) (known : List (Option Transition)) (is : slice_get program.procs proc ≡ Some p) (formed : IsWellFormed program) (are : AreKnown program known) where
+module _ (program : Program) (proc : ℕ) (p : Proc) (known : List (Option Transition)) (is : IsProcOf program proc p) (formed : IsWellFormed program) (are : AreKnown program known) where
   abbrev width : ℕ
   width = width_of program p
 

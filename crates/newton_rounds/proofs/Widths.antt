@@ -19,6 +19,7 @@ use Rattle.transition_formula.specs.Transition.{Transition}
 use Rattle.polyhedra.specs.Vocabulary.{Vocabulary}
 use Rattle.vocabularies.specs.Ends.{entry_of, full_of, pair_of}
 use Rattle.vocabularies.specs.Ends as ends
+use Rattle.vocabularies.specs.Procs.{IsProcOf}
 use Rattle.leaf_cases.specs.Conditions.{AreKnown}
 use Rattle.checked_tree.specs.Graph.{vocabulary_at}
 use Rattle.checked_tree.specs.Law.{AreFittedCells, FitsCell}
@@ -29,7 +30,7 @@ use Rattle.newton_rounds.specs.Closure.{pair_ends}
 use Rattle.newton_rounds.specs.Shapes.{AreEnds}
 use Rattle.newton_rounds.proofs.CratesBelow.{full-columns, identity-fits, narrow, proc-fit, vocabulary-is}
 
-module _ (program : Program) (proc : ℕ) (p : Proc) (formed : IsWellFormed program) (is : slice_get program.procs proc ≡ Some p) where
+module _ (program : Program) (proc : ℕ) (p : Proc) (formed : IsWellFormed program) (is : IsProcOf program proc p) where
   pub ends-are : AreEnds (pair_ends program p)
   unfolding full_of entry_of ends.exit_of pair_of
   ends-are =

@@ -5,6 +5,7 @@ use Rattle.std.specs.List.{AllZip}
 use Rattle.syntax_tree.specs.declared.program.Proc.{Proc}
 use Rattle.syntax_tree.specs.declared.program.Program.{Program}
 use Rattle.transition_formula.specs.Transition.{Transition}
+use Rattle.vocabularies.specs.Procs.{IsProcOf}
 use Rattle.proc_summary.specs.Alike.{AreAlikeProcs, AreKnownAlike}
 use Rattle.proc_summary.specs.Subject.{Subject, subject_of}
 use Rattle.newton_rounds.specs.Close.{group_closure}
@@ -28,7 +29,7 @@ pub record AreAlikeMembers (same : ℕ → ℕ → Type 0) (program other : Prog
     (proc number : ℕ) : Type 0 where
   pub p : Proc
   pub q : Proc
-  pub is : slice_get program.procs proc ≡ Some p
+  pub is : IsProcOf program proc p
   pub other_is : slice_get other.procs number ≡ Some q
   pub alike : AreAlikeProcs same program other p q
 

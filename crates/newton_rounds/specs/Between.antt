@@ -6,6 +6,7 @@ use Rattle.linear_terms.specs.declared.row.Row.{Row}
 use Rattle.transition_formula.specs.Transition.{Transition, IsTransition, every_column, is_below}
 use Rattle.syntax_tree.specs.declared.program.Proc.{Proc}
 use Rattle.syntax_tree.specs.declared.program.Program.{Program}
+use Rattle.vocabularies.specs.Procs.{IsProcOf}
 use Rattle.leaf_cases.specs.Conditions.{IsKnown}
 use Rattle.path_expr.specs.declared.cell.Cell.{Cell}
 use Rattle.path_expr.specs.declared.cell.Cell.TheVariants as known
@@ -116,7 +117,7 @@ AreSummaries (member ∷ members) (f ∷ table) = IsSummary member f × AreSumma
 abbrev pub FitTable : Program → List ℕ → List Transition → Type 0
 FitTable program procs table =
     (place proc : ℕ) (p : Proc) (f : Transition) → slice_get procs place ≡ Some proc →
-    slice_get program.procs proc ≡ Some p → slice_get table place ≡ Some f → IsKnown program p f
+    IsProcOf program proc p → slice_get table place ≡ Some f → IsKnown program p f
 
 -- ---- candidates
 

@@ -3,6 +3,7 @@ use Rattle.std.specs.Prelude.{◌≡◌, ◌↔◌, ℕ, IsTrue, Bool, List, Opt
 use Rattle.syntax_tree.specs.declared.program.Proc.{Proc}
 use Rattle.syntax_tree.specs.declared.program.Program.{Program}
 use Rattle.transition_formula.specs.Transition.{Transition}
+use Rattle.vocabularies.specs.Procs.{IsProcOf}
 use Rattle.leaf_cases.specs.Conditions.{IsKnown}
 use Rattle.leaf_cases.specs.Summaries.{SummaryIsMet}
 use Rattle.newton_rounds.specs.Members.{IsLinear}
@@ -12,7 +13,7 @@ pub record AreKnownMembers (program : Program) (procs : List ℕ)
     (table : List Transition) : Type 0 where
   pub each : length table ≡ length procs
   pub fit : (place proc : ℕ) (p : Proc) (f : Transition) → slice_get procs place ≡ Some proc →
-      slice_get program.procs proc ≡ Some p → slice_get table place ≡ Some f → IsKnown program p f
+      IsProcOf program proc p → slice_get table place ≡ Some f → IsKnown program p f
 
 -- each is met
 abbrev pub AreMetMembers : Program → List ℕ → List Transition → Type 0

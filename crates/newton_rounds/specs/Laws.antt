@@ -10,6 +10,7 @@ use Rattle.leaf_cases.specs.Conditions.{AreKnown}
 use Rattle.leaf_cases.specs.Summaries.{AreMet, KnowsCallee}
 use Rattle.proc_summary.specs.Subject.{own_graph}
 use Rattle.posing.specs.Posing.{AlwaysPassing}
+use Rattle.vocabularies.specs.Procs.{IsProcOf}
 use Rattle.newton_rounds.specs.Claims.{AreMetMembers}
 use Rattle.newton_rounds.specs.Close.{group_closure}
 use Rattle.newton_rounds.specs.Members.{IsLinear}
@@ -23,7 +24,7 @@ CallsMember procs _ = ⊥
 abbrev pub KnowsOthers : Program → List ℕ → List (Option Transition) → Type 0
 KnowsOthers program procs known =
     (place proc : ℕ) (p : Proc) → slice_get procs place ≡ Some proc
-    → slice_get program.procs proc ≡ Some p →
+    → IsProcOf program proc p →
     AllByRecursion (λ way. CallsMember procs way.act ⊎ KnowsCallee known way.act) (own_graph p).arcs
 
 -- Where the known formulas are met, and the flag calls no group linear that is not, each summary of

@@ -1,9 +1,10 @@
-ghost use Rattle.std.specs.Prelude.{◌≡◌, ◌<◌, [], All, Some, length, slice_get, IfOk};
+ghost use Rattle.std.specs.Prelude.{◌≡◌, ◌<◌, [], All, length, IfOk};
 ghost use Rattle.syntax_tree.specs.WellFormed.{IsWellFormed};
 ghost use Rattle.syntax_tree.specs.declared.program.Proc.{Proc as Procedure};
-ghost use Rattle.posing.specs.Follows.{Follows};
+ghost use Rattle.posing.specs.Follows.{Asks};
 ghost use Rattle.posing.specs.Logs.{Adds, loss_notes};
 ghost use Rattle.posing.specs.Posing.{each};
+ghost use Rattle.vocabularies.specs.Procs.{IsProcOf};
 ghost use Rattle.leaf_cases.specs.Conditions.{AreKnown};
 ghost use Rattle.proc_summary.specs.Claims.{FitsIf};
 ghost use Rattle.newton_rounds.specs.Between.{AddsBase, AreBases, GoesBetween};
@@ -36,8 +37,7 @@ pub(crate) fn bases_of<O: Oracle>(
     requires formed { IsWellFormed program.now }
     requires there { All (λ proc. proc < length program.now.procs) procs.now }
     requires known { AreKnown program.now known.now }
-    ensures follows { Follows O.asking oracle.old oracle.new log.old log.new result
-        (bases_of program.now procs.now known.now) }
+    ensures follows { Asks O.asking oracle log result (bases_of program.now procs.now known.now) }
     ensures fits { IfOk result (AreBases (ends_of_members program.now procs.now)) }
 {
     let others = with_table(alloc, procs, &[], known)?;
@@ -55,7 +55,7 @@ fn bases_by<O: Oracle>(
     requires formed { IsWellFormed program.now }
     requires there { All (λ proc. proc < length program.now.procs) procs.now }
     requires known { AreKnown program.now known.now }
-    ensures follows { Follows O.asking oracle.old oracle.new log.old log.new result
+    ensures follows { Asks O.asking oracle log result
         (each (with_base program.now known.now) [] (members_of program.now procs.now)) }
     ensures fits { IfOk result (AreBases (ends_of_members program.now procs.now)) }
 {
@@ -79,10 +79,9 @@ fn with_base<O: Oracle>(
     requires formed { IsWellFormed program.now }
     requires procedure { proc < length program.now.procs }
     requires known { AreKnown program.now known.now }
-    ensures follows { (p : Procedure) → slice_get program.now.procs proc ≡ Some p
-        → Follows O.asking oracle.old oracle.new log.old log.new result
-        (with_base program.now known.now made p) }
-    ensures fits { (p : Procedure) → slice_get program.now.procs proc ≡ Some p
+    ensures follows { (p : Procedure) → IsProcOf program.now proc p
+        → Asks O.asking oracle log result (with_base program.now known.now made p) }
+    ensures fits { (p : Procedure) → IsProcOf program.now proc p
         → IfOk result (AddsBase (pair_ends program.now p) made) }
 {
     let base = base_of(alloc, program, proc, known, oracle, log)?;
@@ -104,10 +103,9 @@ fn base_of<O: Oracle>(
     requires formed { IsWellFormed program.now }
     requires procedure { proc < length program.now.procs }
     requires known { AreKnown program.now known.now }
-    ensures follows { (p : Procedure) → slice_get program.now.procs proc ≡ Some p
-        → Follows O.asking oracle.old oracle.new log.old log.new result
-        (base_of program.now known.now p) }
-    ensures goes { (p : Procedure) → slice_get program.now.procs proc ≡ Some p
+    ensures follows { (p : Procedure) → IsProcOf program.now proc p
+        → Asks O.asking oracle log result (base_of program.now known.now p) }
+    ensures goes { (p : Procedure) → IsProcOf program.now proc p
         → IfOk result (GoesBetween 1000 (pair_ends program.now p).pair.columns 0) }
 {
     let ends = pair_ends(alloc, program, proc)?;

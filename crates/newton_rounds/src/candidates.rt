@@ -1,6 +1,6 @@
 ghost use Rattle.std.specs.Prelude.{◌≡◌, [], All, length, map, IfOk};
 ghost use Rattle.std.specs.List.{AllByRecursion};
-ghost use Rattle.posing.specs.Follows.{Follows};
+ghost use Rattle.posing.specs.Follows.{Asks};
 ghost use Rattle.posing.specs.Posing.{each};
 ghost use Rattle.polyhedra.specs.Bounds.{IsCovered, IsCoveredByPosts, rows_with_exit_bound};
 ghost use Rattle.polyhedra.specs.Directions.{directions};
@@ -33,8 +33,7 @@ pub(crate) fn candidate_of<O: Oracle>(
 ) -> Result<Items<Row>, WorkError>
     requires member { IsMember member.now }
     requires summary { IsSummary member.now f.now }
-    ensures follows { Follows O.asking oracle.old oracle.new log.old log.new result
-        (candidate_of member.now f.now) }
+    ensures follows { Asks O.asking oracle log result (candidate_of member.now f.now) }
     ensures over { IfOk result (AllByRecursion (IsRowOver member.now.pair.columns)) }
 {
     if f.cases().is_empty() {
@@ -64,7 +63,7 @@ fn pair_bounds<O: Oracle>(
     requires posts { All (IsCoveredByPosts cases.now) (directions member.now.pair) }
     requires rows { All (IsCovered (length (columns_of member.now.pair.columns)))
         (directions member.now.pair) }
-    ensures { Follows O.asking oracle.old oracle.new log.old log.new result
+    ensures { Asks O.asking oracle log result
         (each (rows_with_exit_bound cases.now (columns_of member.now.pair.columns)) []
         (directions member.now.pair)) }
 {

@@ -1,6 +1,6 @@
 ghost use Rattle.std.specs.Prelude.{◌≡◌, ◌<◌, ◌^◌, ◌++◌, [], ◌∷◌, length, IfOk, OnOk};
 ghost use Rattle.std.specs.List.{flat_map};
-ghost use Rattle.posing.specs.Follows.{Follows};
+ghost use Rattle.posing.specs.Follows.{Asks};
 ghost use Rattle.newton_rounds.specs.Closure.{chain_end, chains_of, closure_at, ends_at, exits_told, losses_in_chain_end, losses_in_chains, losses_in_exits, others_in, pair_cell};
 ghost use Rattle.newton_rounds.specs.Between.{AreChained, GoesBetween, width_at};
 ghost use Rattle.newton_rounds.specs.Shapes.{AreEnds};
@@ -28,8 +28,7 @@ pub(crate) fn closure_at<O: Oracle>(
     log: &mut Log,
 ) -> Result<Formula, WorkError>
     requires { AreChained members.now bases.now place cells.now }
-    ensures { Follows O.asking oracle.old oracle.new log.old log.new result
-        (closure_at members.now bases.now place cells.now) }
+    ensures { Asks O.asking oracle log result (closure_at members.now bases.now place cells.now) }
 {
     let member = &members[place as usize];
     let mut lost = Items::new(alloc);

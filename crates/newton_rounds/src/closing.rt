@@ -1,7 +1,7 @@
 ghost use Rattle.std.specs.Prelude.{◌≡◌, ◌<◌, ◌≤◌, [], All, length, IfOk};
 ghost use Rattle.std.specs.List.{AllByRecursion};
 ghost use Rattle.syntax_tree.specs.WellFormed.{IsWellFormed};
-ghost use Rattle.posing.specs.Follows.{Follows};
+ghost use Rattle.posing.specs.Follows.{Asks};
 ghost use Rattle.posing.specs.Posing.{each};
 ghost use Rattle.leaf_cases.specs.Conditions.{AreKnown};
 ghost use Rattle.leaf_cases.specs.Summaries.{AreMet};
@@ -44,7 +44,7 @@ pub fn close<O: Oracle>(
     requires few { length procs.now ≤ length program.now.procs }
     requires known { AreKnown program.now known.now }
     requires linear { TellsLinear program.now procs.now linear }
-    ensures follows { Follows O.asking oracle.old oracle.new log.old log.new result
+    ensures follows { Asks O.asking oracle log result
         (group_closure linear program.now procs.now known.now) }
     ensures known { IfOk result (AreKnownMembers program.now procs.now) }
     ensures met { AreMet program.now known.now → KnowsOthers program.now procs.now known.now
@@ -68,7 +68,7 @@ fn group_closure<O: Oracle>(
     requires there { All (λ proc. proc < length program.now.procs) procs.now }
     requires few { length procs.now ≤ length program.now.procs }
     requires known { AreKnown program.now known.now }
-    ensures follows { Follows O.asking oracle.old oracle.new log.old log.new result
+    ensures follows { Asks O.asking oracle log result
         (group_closure linear program.now procs.now known.now) }
     ensures known { IfOk result (AreKnownMembers program.now procs.now) }
 {
@@ -97,7 +97,7 @@ fn closure_by_rounds<O: Oracle>(
     requires few { length procs.now ≤ length program.now.procs }
     requires known { AreKnown program.now known.now }
     requires bases { AreBases (ends_of_members program.now procs.now) bases.now }
-    ensures follows { Follows O.asking oracle.old oracle.new log.old log.new result
+    ensures follows { Asks O.asking oracle log result
         (closure_by_rounds program.now procs.now known.now bases.now) }
     ensures fits { IfOk result (AreSummaries (ends_of_members program.now procs.now)) }
 {
@@ -130,7 +130,7 @@ fn rounds_after<O: Oracle>(
     requires known { AreKnown program.now known.now }
     requires bases { AreBases (ends_of_members program.now procs.now) bases.now }
     requires table { FitTable program.now procs.now table.now }
-    ensures follows { Follows O.asking oracle.old oracle.new log.old log.new result
+    ensures follows { Asks O.asking oracle log result
         (rounds_after program.now procs.now known.now bases.now table.now) }
     ensures fits { IfOk result (AreSummaries (ends_of_members program.now procs.now)) }
 {
@@ -157,7 +157,7 @@ fn rounds_over<O: Oracle>(
     requires members { members.now ≡ ends_of_members program.now procs.now }
     requires known { AreKnown program.now known.now }
     requires table { AreSummaries members.now table.now }
-    ensures follows { Follows O.asking oracle.old oracle.new log.old log.new result
+    ensures follows { Asks O.asking oracle log result
         (rounds_over program.now procs.now known.now table.now) }
     ensures fits { IfOk result (AreSummaries (ends_of_members program.now procs.now)) }
 {
@@ -195,7 +195,7 @@ fn candidates_of<O: Oracle>(
 ) -> Result<Items<Items<Row>>, WorkError>
     requires members { AllByRecursion IsMember members.now }
     requires table { AreSummaries members.now table.now }
-    ensures follows { Follows O.asking oracle.old oracle.new log.old log.new result
+    ensures follows { Asks O.asking oracle log result
         (each with_candidate [] (pairs_of members.now table.now)) }
     ensures over { IfOk result (AreCandidates members.now) }
 {
@@ -217,8 +217,7 @@ fn with_candidate<O: Oracle>(
 ) -> Result<Items<Items<Row>>, WorkError>
     requires member { IsMember member.now }
     requires summary { IsSummary member.now f.now }
-    ensures { Follows O.asking oracle.old oracle.new log.old log.new result
-        (with_candidate made (member.now, f.now)) }
+    ensures { Asks O.asking oracle log result (with_candidate made (member.now, f.now)) }
 {
     let rows = candidate_of(alloc, member, f, oracle, log)?;
     let mut all = made;

@@ -2,7 +2,7 @@ ghost use Rattle.std.specs.Prelude.{◌≡◌, ◌<◌, ◌≤◌, ◌++◌, ◌
 ghost use Rattle.std.specs.List.{flat_map, range_with_len};
 ghost use Rattle.path_expr.specs.declared.link.Link.{Link as PlainLink};
 ghost use Rattle.syntax_tree.specs.WellFormed.{IsWellFormed};
-ghost use Rattle.posing.specs.Follows.{Follows};
+ghost use Rattle.posing.specs.Follows.{Asks};
 ghost use Rattle.posing.specs.Logs.{Adds, loss_notes};
 ghost use Rattle.posing.specs.Posing.{Noted, each};
 ghost use Rattle.leaf_cases.specs.Conditions.{AreKnown};
@@ -47,7 +47,7 @@ pub(crate) fn closure_of<O: Oracle>(
     requires known { AreKnown program.now known.now }
     requires bases { AreBases (ends_of_members program.now procs.now) bases.now }
     requires table { FitTable program.now procs.now table.now }
-    ensures follows { Follows O.asking oracle.old oracle.new log.old log.new result
+    ensures follows { Asks O.asking oracle log result
         (closure_of program.now procs.now known.now bases.now table.now) }
     ensures fits { IfOk result (AreSummaries (ends_of_members program.now procs.now)) }
 {
@@ -82,7 +82,7 @@ fn sides_by<O: Oracle>(
     requires few { length procs.now < 2 ^ 32 }
     requires known { AreKnown program.now known.now }
     requires table { FitTable program.now procs.now table.now }
-    ensures follows { Follows O.asking oracle.old oracle.new log.old log.new result
+    ensures follows { Asks O.asking oracle log result
         (sides_of program.now procs.now (with_table procs.now table.now known.now)) }
     ensures fits { IfOk result
         (FitCalls (ends_of_members program.now procs.now)
@@ -106,7 +106,7 @@ fn group_formulas<O: Oracle>(
     requires each { length calls.now ≡ length sides.now }
     requires group { IsGroup members.now (stretches_with (map plain_call calls.now) sides.now) }
     requires bases { AreBases members.now bases.now }
-    ensures { Follows O.asking oracle.old oracle.new log.old log.new result
+    ensures { Asks O.asking oracle log result
         (each (with_closed members.now (stretches_with (map plain_call calls.now) sides.now)
         bases.now) [] (range_with_len 0 (length members.now))) }
 {
@@ -135,7 +135,7 @@ fn with_closed<O: Oracle>(
     requires group { IsGroup members.now (stretches_with (map plain_call calls.now) sides.now) }
     requires bases { AreBases members.now bases.now }
     requires there { place < length members.now }
-    ensures { Follows O.asking oracle.old oracle.new log.old log.new result
+    ensures { Asks O.asking oracle log result
         (with_closed members.now (stretches_with (map plain_call calls.now) sides.now) bases.now
         made place) }
 {
@@ -161,7 +161,7 @@ fn closed_member<O: Oracle>(
     requires group { IsGroup members.now (stretches_with (map plain_call calls.now) sides.now) }
     requires bases { AreBases members.now bases.now }
     requires there { place < length members.now }
-    ensures { Follows O.asking oracle.old oracle.new log.old log.new result
+    ensures { Asks O.asking oracle log result
         (closed_member members.now (stretches_with (map plain_call calls.now) sides.now) bases.now
         place) }
 {
@@ -183,7 +183,7 @@ fn group_cells<O: Oracle>(
     requires each { length calls.now ≡ length sides.now }
     requires group { IsGroup members.now (stretches_with (map plain_call calls.now) sides.now) }
     requires there { place < length members.now }
-    ensures follows { Follows O.asking oracle.old oracle.new log.old log.new result
+    ensures follows { Asks O.asking oracle log result
         (Noted (loss_notes
         (flat_map (losses_in_group_leaf members.now)
         (stretches_with (map plain_call calls.now) sides.now)))

@@ -1,7 +1,8 @@
-ghost use Rattle.std.specs.Prelude.{◌≡◌, ◌<◌, ◌+◌, ◌^◌, All, Some, length, slice_get, IfOk};
+ghost use Rattle.std.specs.Prelude.{◌≡◌, ◌<◌, ◌+◌, ◌^◌, All, length, IfOk};
 ghost use Rattle.std.specs.List.{range_with_len};
 ghost use Rattle.syntax_tree.specs.WellFormed.{IsWellFormed};
 ghost use Rattle.syntax_tree.specs.declared.program.Proc.{Proc as Procedure};
+ghost use Rattle.vocabularies.specs.Procs.{IsProcOf};
 ghost use Rattle.proc_summary.specs.Summary.{exit_places};
 ghost use Rattle.newton_rounds.specs.Closure.{ends_of_members, pair_ends};
 ghost use Rattle.newton_rounds.specs.Shapes.{AreEnds};
@@ -73,7 +74,7 @@ pub(crate) fn numbers_from(alloc: Global, first: u32, count: u32) -> Result<Item
 pub(crate) fn pair_ends(alloc: Global, program: &Program, proc: u32) -> Result<PairEnds, AllocError>
     requires formed { IsWellFormed program.now }
     requires procedure { proc < length program.now.procs }
-    ensures { (p : Procedure) → slice_get program.now.procs proc ≡ Some p
+    ensures { (p : Procedure) → IsProcOf program.now proc p
         → IfOk result (λ ends. ends ≡ pair_ends program.now p) }
 {
     let full = full(alloc, program, proc)?;

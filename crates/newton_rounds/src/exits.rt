@@ -1,9 +1,10 @@
-ghost use Rattle.std.specs.Prelude.{◌≡◌, ◌<◌, Some, length, slice_get, IfOk};
+ghost use Rattle.std.specs.Prelude.{◌≡◌, ◌<◌, length, IfOk};
 ghost use Rattle.syntax_tree.specs.Code.{code_of};
 ghost use Rattle.syntax_tree.specs.WellFormed.{IsWellFormed, width_of};
 ghost use Rattle.syntax_tree.specs.declared.program.Proc.{Proc as Procedure};
 ghost use Rattle.flow_graph.specs.FlowGraph.{exit_of};
-ghost use Rattle.posing.specs.Follows.{Follows};
+ghost use Rattle.posing.specs.Follows.{Asks};
+ghost use Rattle.vocabularies.specs.Procs.{IsProcOf};
 ghost use Rattle.leaf_cases.specs.Conditions.{AreKnown};
 ghost use Rattle.proc_summary.specs.Claims.{FitsIf};
 ghost use Rattle.proc_summary.specs.Subject.{subject_of};
@@ -31,10 +32,9 @@ pub(crate) fn exit_from<O: Oracle>(
     requires formed { IsWellFormed program.now }
     requires procedure { proc < length program.now.procs }
     requires known { AreKnown program.now known.now }
-    ensures follows { (p : Procedure) → slice_get program.now.procs proc ≡ Some p
-        → Follows O.asking oracle.old oracle.new log.old log.new result
-        (exit_from (subject_of program.now p known.now)) }
-    ensures fits { (p : Procedure) → slice_get program.now.procs proc ≡ Some p
+    ensures follows { (p : Procedure) → IsProcOf program.now proc p
+        → Asks O.asking oracle log result (exit_from (subject_of program.now p known.now)) }
+    ensures fits { (p : Procedure) → IsProcOf program.now proc p
         → IfOk result (FitsIf (width_of program.now p)) }
 {
     let columns = columns_of(program, proc);
@@ -47,7 +47,7 @@ pub(crate) fn exit_from<O: Oracle>(
 fn exit_node(alloc: Global, program: &Program, proc: u32) -> Result<u32, AllocError>
     requires formed { IsWellFormed program.now }
     requires procedure { proc < length program.now.procs }
-    ensures { (p : Procedure) → slice_get program.now.procs proc ≡ Some p
+    ensures { (p : Procedure) → IsProcOf program.now proc p
         → IfOk result (λ node. node ≡ exit_of (code_of p.body)) }
 {
     let graph = graph(alloc, program, proc)?;

@@ -2,6 +2,6 @@
 ghost use Rattle.newton_rounds.specs.Alike.{AlikeGroupsAreOne};
 
 /// Groups that are alike are both linear or neither, and have one computation of their summaries.
-pub fn law_of_alike_groups()
+pub fn alike_groups_are_one()
     ensures { AlikeGroupsAreOne }
 {}

@@ -25,6 +25,6 @@ mod stretching;
 mod tables;
 
 pub use closing::close;
-pub use laws::law_of_alike_groups;
+pub use laws::alike_groups_are_one;
 pub use linear::is_linear;
 pub use tables::with_table;

@@ -5,7 +5,7 @@ ghost use Rattle.linear_terms.specs.declared.row.Row.{Row as PlainRow};
 ghost use Rattle.transition_formula.specs.Hiding.{own_auxiliaries};
 ghost use Rattle.transition_formula.specs.Loss.{answer_of, losses_of};
 ghost use Rattle.farkas_check.specs.Columns.{columns};
-ghost use Rattle.posing.specs.Follows.{Follows};
+ghost use Rattle.posing.specs.Follows.{Asks};
 ghost use Rattle.posing.specs.Posing.{each};
 ghost use Rattle.leaf_cases.specs.Guard.{columns_of};
 ghost use Rattle.newton_rounds.specs.Candidates.{against, contrary, findings_in, found_left, limit_notes, outcome, outcome_by, refutation, with_answer, with_case, with_point};
@@ -31,8 +31,7 @@ pub(crate) fn refutation<O: Oracle>(
     log: &mut Log,
 ) -> Result<Option<Witness>, WorkError>
     requires rows { IsRefutable f.now row.now }
-    ensures { Follows O.asking oracle.old oracle.new log.old log.new result
-        (refutation f.now row.now) }
+    ensures { Asks O.asking oracle log result (refutation f.now row.now) }
 {
     let found = findings_over(alloc, f, row, oracle, log)?;
     outcome(alloc, found, oracle, log)
@@ -47,7 +46,7 @@ fn findings_over<O: Oracle>(
     log: &mut Log,
 ) -> Result<Findings, WorkError>
     requires rows { IsRefutable f.now row.now }
-    ensures { Follows O.asking oracle.old oracle.new log.old log.new result
+    ensures { Asks O.asking oracle log result
         (each (with_case f.now.from row.now) (record { point = None; limits = [] }) f.now.cases) }
 {
     let mut found = Findings {
@@ -72,8 +71,7 @@ fn with_case<O: Oracle>(
     log: &mut Log,
 ) -> Result<Findings, WorkError>
     requires { IsOverPairs from case.now row.now }
-    ensures { Follows O.asking oracle.old oracle.new log.old log.new result
-        (with_case from row.now found case.now) }
+    ensures { Asks O.asking oracle log result (with_case from row.now found case.now) }
 {
     let mut lost = Items::new(alloc);
     let whole = against(alloc, from, case, row, &mut lost)?;
@@ -172,8 +170,7 @@ fn found_left<O: Oracle>(
     oracle: &mut O,
     log: &mut Log,
 ) -> Result<Findings, WorkError>
-    ensures { Follows O.asking oracle.old oracle.new log.old log.new result
-        (found_left found (case_left_of left)) }
+    ensures { Asks O.asking oracle log result (found_left found (case_left_of left)) }
 {
     match left {
         Solved::Kept(case) => findings_in(alloc, found, case.rows, oracle, log),
@@ -190,7 +187,7 @@ fn findings_in<O: Oracle>(
     oracle: &mut O,
     log: &mut Log,
 ) -> Result<Findings, WorkError>
-    ensures { Follows O.asking oracle.old oracle.new log.old log.new result (findings_in found rows) }
+    ensures { Asks O.asking oracle log result (findings_in found rows) }
 {
     if rows.is_empty() {
         let of = Items::new(alloc);
@@ -246,7 +243,7 @@ fn outcome<O: Oracle>(
     oracle: &mut O,
     log: &mut Log,
 ) -> Result<Option<Witness>, WorkError>
-    ensures { Follows O.asking oracle.old oracle.new log.old log.new result (outcome found) }
+    ensures { Asks O.asking oracle log result (outcome found) }
 {
     let Findings { point, limits } = found;
     match point {
@@ -266,8 +263,7 @@ fn first_limit<O: Oracle>(
     _oracle: &mut O,
     log: &mut Log,
 ) -> Result<Option<Witness>, WorkError>
-    ensures { Follows O.asking _oracle.old _oracle.new log.old log.new result
-        (outcome_by None limits.now) }
+    ensures { Asks O.asking _oracle log result (outcome_by None limits.now) }
 {
     match limits {
         [] => Ok(None),

@@ -1,10 +1,11 @@
-ghost use Rattle.std.specs.Prelude.{◌≡◌, ◌<◌, ◌≤◌, ◌+◌, ◌^◌, [], All, Some, length, map, slice_get, IfOk};
+ghost use Rattle.std.specs.Prelude.{◌≡◌, ◌<◌, ◌≤◌, ◌+◌, ◌^◌, [], All, length, map, IfOk};
 ghost use Rattle.std.specs.List.{AllByRecursion, filter_map};
 ghost use Rattle.syntax_tree.specs.WellFormed.{IsWellFormed};
 ghost use Rattle.syntax_tree.specs.declared.program.Proc.{Proc as Procedure};
-ghost use Rattle.posing.specs.Follows.{Follows};
+ghost use Rattle.posing.specs.Follows.{Asks};
 ghost use Rattle.posing.specs.Logs.{Adds};
 ghost use Rattle.posing.specs.Posing.{each};
+ghost use Rattle.vocabularies.specs.Procs.{IsProcOf};
 ghost use Rattle.leaf_cases.specs.Conditions.{AreKnown, IsKnown};
 ghost use Rattle.newton_rounds.specs.Candidates.{dropped_notes, end_of_round, judgements_and, kept_row, last_round, members_with, no_judgements, round, some_note, table_of, unfolded_formula, with_judged, with_round};
 ghost use Rattle.newton_rounds.specs.Closure.{ends_of_members, pair_ends};
@@ -43,7 +44,7 @@ pub(crate) fn last_round<O: Oracle>(
     requires few { length procs.now ≤ length program.now.procs }
     requires known { AreKnown program.now known.now }
     requires candidates { AreCandidates (ends_of_members program.now procs.now) candidates }
-    ensures follows { Follows O.asking oracle.old oracle.new log.old log.new result
+    ensures follows { Asks O.asking oracle log result
         (last_round program.now procs.now known.now candidates) }
     ensures over { IfOk result
         (λ end. AreCandidates (ends_of_members program.now procs.now) end.candidates) }
@@ -91,7 +92,7 @@ fn round<O: Oracle>(
     requires members { members.now ≡ ends_of_members program.now procs.now }
     requires known { AreKnown program.now known.now }
     requires candidates { AreCandidates members.now candidates.now }
-    ensures follows { Follows O.asking oracle.old oracle.new log.old log.new result
+    ensures follows { Asks O.asking oracle log result
         (round program.now procs.now known.now candidates.now) }
     ensures over { IfOk result (λ next. AreCandidates members.now next.0.candidates) }
     ensures fewer { IfOk result (λ next. IsFewer candidates.now next) }
@@ -176,7 +177,7 @@ fn judgements_in<O: Oracle>(
     requires there { All (λ proc. proc < length program.now.procs) procs.now }
     requires known { AreKnown program.now known.now }
     requires candidates { AreCandidates (ends_of_members program.now procs.now) candidates.now }
-    ensures { Follows O.asking oracle.old oracle.new log.old log.new result
+    ensures { Asks O.asking oracle log result
         (each (with_round program.now known.now) no_judgements
         (members_with (members_of program.now procs.now) candidates.now)) }
 {
@@ -213,11 +214,10 @@ fn with_round<O: Oracle>(
     requires formed { IsWellFormed program.now }
     requires procedure { proc < length program.now.procs }
     requires known { AreKnown program.now known.now }
-    requires rows { (p : Procedure) → slice_get program.now.procs proc ≡ Some p
+    requires rows { (p : Procedure) → IsProcOf program.now proc p
         → AllByRecursion (IsRowOver (pair_ends program.now p).pair.columns) rows.now }
-    ensures { (p : Procedure) → slice_get program.now.procs proc ≡ Some p
-        → Follows O.asking oracle.old oracle.new log.old log.new result
-        (with_round program.now known.now made (p, rows.now)) }
+    ensures { (p : Procedure) → IsProcOf program.now proc p
+        → Asks O.asking oracle log result (with_round program.now known.now made (p, rows.now)) }
 {
     let f = unfolded_formula(alloc, program, proc, known, oracle, log)?;
     let judged = judgements_by(alloc, &f, rows, oracle, log)?;
@@ -246,8 +246,7 @@ fn judgements_by<O: Oracle>(
     log: &mut Log,
 ) -> Result<Items<JudgedRow>, WorkError>
     requires { AllByRecursion (IsRefutable f.now) rows.now }
-    ensures { Follows O.asking oracle.old oracle.new log.old log.new result
-        (each (with_judged f.now) [] rows.now) }
+    ensures { Asks O.asking oracle log result (each (with_judged f.now) [] rows.now) }
 {
     let mut judged = Items::new(alloc);
     for row in rows {
@@ -266,8 +265,7 @@ fn with_judged<O: Oracle>(
     log: &mut Log,
 ) -> Result<Items<JudgedRow>, WorkError>
     requires { IsRefutable f.now row.now }
-    ensures { Follows O.asking oracle.old oracle.new log.old log.new result
-        (with_judged f.now made row.now) }
+    ensures { Asks O.asking oracle log result (with_judged f.now made row.now) }
 {
     let copy = row.clone()?;
     let by = refutation(alloc, f, row, oracle, log)?;
@@ -290,10 +288,9 @@ fn unfolded_formula<O: Oracle>(
     requires formed { IsWellFormed program.now }
     requires procedure { proc < length program.now.procs }
     requires known { AreKnown program.now known.now }
-    ensures follows { (p : Procedure) → slice_get program.now.procs proc ≡ Some p
-        → Follows O.asking oracle.old oracle.new log.old log.new result
-        (unfolded_formula program.now known.now p) }
-    ensures known { (p : Procedure) → slice_get program.now.procs proc ≡ Some p
+    ensures follows { (p : Procedure) → IsProcOf program.now proc p
+        → Asks O.asking oracle log result (unfolded_formula program.now known.now p) }
+    ensures known { (p : Procedure) → IsProcOf program.now proc p
         → IfOk result (IsKnown program.now p) }
 {
     let exit = exit_from(alloc, program, proc, known, oracle, log)?;

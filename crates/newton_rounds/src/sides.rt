@@ -4,8 +4,9 @@ ghost use Rattle.syntax_tree.specs.Code.{code_of};
 ghost use Rattle.syntax_tree.specs.WellFormed.{IsWellFormed, width_of};
 ghost use Rattle.syntax_tree.specs.declared.program.Proc.{Proc as Procedure};
 ghost use Rattle.flow_graph.specs.FlowGraph.{exit_of};
-ghost use Rattle.posing.specs.Follows.{Follows};
+ghost use Rattle.posing.specs.Follows.{Asks};
 ghost use Rattle.posing.specs.Posing.{each};
+ghost use Rattle.vocabularies.specs.Procs.{IsProcOf};
 ghost use Rattle.leaf_cases.specs.Conditions.{AreKnown};
 ghost use Rattle.checked_tree.specs.Law.{AreFittedCells};
 ghost use Rattle.proc_summary.specs.Subject.{graph_by, own_graph, subject_of};
@@ -61,8 +62,7 @@ pub(crate) fn sides_of<O: Oracle>(
     requires there { All (λ proc. proc < length program.now.procs) procs.now }
     requires few { length procs.now < 2 ^ 32 }
     requires known { AreKnown program.now known.now }
-    ensures follows { Follows O.asking oracle.old oracle.new log.old log.new result
-        (sides_of program.now procs.now known.now) }
+    ensures follows { Asks O.asking oracle log result (sides_of program.now procs.now known.now) }
     ensures fits { IfOk result
         (FitCalls (ends_of_members program.now procs.now)
         (calls_from procs.now 0 (members_of program.now procs.now))) }
@@ -92,7 +92,7 @@ fn with_member<O: Oracle>(
     requires known { AreKnown program.now known.now }
     requires place { place < length procs.now }
     ensures follows { (p : Procedure) → slice_get program.now.procs (slice_index procs.now place)
-        ≡ Some p → Follows O.asking oracle.old oracle.new log.old log.new result
+        ≡ Some p → Asks O.asking oracle log result
         (with_member program.now procs.now known.now made (place, p)) }
     ensures fits { (p : Procedure) → slice_get program.now.procs (slice_index procs.now place)
         ≡ Some p → IfOk result
@@ -141,7 +141,7 @@ fn member_calls(
 pub(crate) fn columns_of(program: &Program, proc: u32) -> u32
     requires formed { IsWellFormed program.now }
     requires procedure { proc < length program.now.procs }
-    ensures { (p : Procedure) → slice_get program.now.procs proc ≡ Some p
+    ensures { (p : Procedure) → IsProcOf program.now proc p
         → result ≡ width_of program.now p }
 {
     let p = &program.procs.as_slice()[proc as usize];
@@ -164,15 +164,15 @@ fn with_all_sides<O: Oracle>(
     requires formed { IsWellFormed program.now }
     requires procedure { proc < length program.now.procs }
     requires known { AreKnown program.now known.now }
-    requires starts { (p : Procedure) → slice_get program.now.procs proc ≡ Some p
+    requires starts { (p : Procedure) → IsProcOf program.now proc p
         → AreFittedCells (graph_by (subject_of program.now p known.now)) 0 starts.now }
-    requires nodes { (p : Procedure) → slice_get program.now.procs proc ≡ Some p
+    requires nodes { (p : Procedure) → IsProcOf program.now proc p
         → HasNodes p exit calls.now }
-    ensures follows { (p : Procedure) → slice_get program.now.procs proc ≡ Some p
-        → Follows O.asking oracle.old oracle.new log.old log.new result
+    ensures follows { (p : Procedure) → IsProcOf program.now proc p
+        → Asks O.asking oracle log result
         (each (with_sides (subject_of program.now p known.now) starts.now) made
         (map plain_call calls.now)) }
-    ensures fits { (p : Procedure) → slice_get program.now.procs proc ≡ Some p
+    ensures fits { (p : Procedure) → IsProcOf program.now proc p
         → IfOk result (AddSides (width_of program.now p) (length calls.now) made) }
 {
     let mut all = made;
@@ -200,16 +200,16 @@ fn with_sides<O: Oracle>(
     requires formed { IsWellFormed program.now }
     requires procedure { proc < length program.now.procs }
     requires known { AreKnown program.now known.now }
-    requires starts { (p : Procedure) → slice_get program.now.procs proc ≡ Some p
+    requires starts { (p : Procedure) → IsProcOf program.now proc p
         → AreFittedCells (graph_by (subject_of program.now p known.now)) 0 starts.now }
-    requires node { (p : Procedure) → slice_get program.now.procs proc ≡ Some p
+    requires node { (p : Procedure) → IsProcOf program.now proc p
         → call.now.to < (own_graph p).nodes }
-    requires exit { (p : Procedure) → slice_get program.now.procs proc ≡ Some p
+    requires exit { (p : Procedure) → IsProcOf program.now proc p
         → exit ≡ exit_of (code_of p.body) }
-    ensures follows { (p : Procedure) → slice_get program.now.procs proc ≡ Some p
-        → Follows O.asking oracle.old oracle.new log.old log.new result
+    ensures follows { (p : Procedure) → IsProcOf program.now proc p
+        → Asks O.asking oracle log result
         (with_sides (subject_of program.now p known.now) starts.now made (plain_call call.now)) }
-    ensures fits { (p : Procedure) → slice_get program.now.procs proc ≡ Some p
+    ensures fits { (p : Procedure) → IsProcOf program.now proc p
         → IfOk result (AddSides (width_of program.now p) 1 made) }
 {
     let sides = sides_from(alloc, program, proc, known, exit, starts, call, oracle, log)?;
@@ -234,16 +234,16 @@ fn sides_from<O: Oracle>(
     requires formed { IsWellFormed program.now }
     requires procedure { proc < length program.now.procs }
     requires known { AreKnown program.now known.now }
-    requires starts { (p : Procedure) → slice_get program.now.procs proc ≡ Some p
+    requires starts { (p : Procedure) → IsProcOf program.now proc p
         → AreFittedCells (graph_by (subject_of program.now p known.now)) 0 starts.now }
-    requires node { (p : Procedure) → slice_get program.now.procs proc ≡ Some p
+    requires node { (p : Procedure) → IsProcOf program.now proc p
         → call.now.to < (own_graph p).nodes }
-    requires exit { (p : Procedure) → slice_get program.now.procs proc ≡ Some p
+    requires exit { (p : Procedure) → IsProcOf program.now proc p
         → exit ≡ exit_of (code_of p.body) }
-    ensures follows { (p : Procedure) → slice_get program.now.procs proc ≡ Some p
-        → Follows O.asking oracle.old oracle.new log.old log.new result
+    ensures follows { (p : Procedure) → IsProcOf program.now proc p
+        → Asks O.asking oracle log result
         (sides_from (subject_of program.now p known.now) starts.now (plain_call call.now)) }
-    ensures fits { (p : Procedure) → slice_get program.now.procs proc ≡ Some p
+    ensures fits { (p : Procedure) → IsProcOf program.now proc p
         → IfOk result (FitSides (width_of program.now p)) }
 {
     let columns = columns_of(program, proc);

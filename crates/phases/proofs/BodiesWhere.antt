@@ -18,8 +18,8 @@ use Rattle.linear_terms.specs.Value.{value_of}
 use Rattle.linear_terms.proofs.Worth.{RowHolds-negation}
 use Rattle.transition_formula.specs.Meaning.{numbers, HoldsSome, Holds}
 use Rattle.transition_formula.specs.Transition.{Transition, every_column, is_below, fits, IsTransition, IsSolvable, AreSolvable}
-use Rattle.transition_formula.proofs.Covered.{both_true, more_columns}
-use Rattle.transition_formula.proofs.Fitted.{fits-solvable}
+use Rattle.transition_formula.proofs.ColumnTests.{both_true, more_columns}
+use Rattle.transition_formula.proofs.FittedFormulas.{fits-solvable}
 use Rattle.transition_formula.proofs.Fitting.{fitting, from_fitting, is_below-more, true-below}
 use Rattle.transition_formula.proofs.Values.{value-agrees}
 use Rattle.posing.specs.Posing.{Always}

@@ -9,7 +9,7 @@ use Rattle.linear_terms.specs.Value.{value_of}
 use Rattle.transition_formula.specs.Composition.{sequence_of}
 use Rattle.transition_formula.specs.Meaning.{numbers, Holds, HoldsSome, HoldsOfChains, IsChain, last_of}
 use Rattle.transition_formula.specs.Transition.{Transition, IsTransition, fits}
-use Rattle.transition_formula.proofs.Covered.{both}
+use Rattle.transition_formula.proofs.ColumnTests.{both}
 use Rattle.transition_formula.proofs.Fitting.{fitting}
 use Rattle.transition_formula.proofs.Meanings.{sequence-holds}
 use Rattle.phases.proofs.BodiesWhere.{IsTrueAt, truth-decided}

@@ -21,7 +21,7 @@ use Rattle.linear_terms.proofs.Values.{substituted-value}
 use Rattle.transition_formula.specs.Meaning.{numbers, HoldsCase, HoldsLeft, HoldsSome}
 use Rattle.transition_formula.specs.Rounds.{in_order}
 use Rattle.transition_formula.specs.Transition.{every_column, is_below, IsSolvable}
-use Rattle.transition_formula.proofs.Covered.{both, both_true, substituted-carries}
+use Rattle.transition_formula.proofs.ColumnTests.{both, both_true, substituted-carries}
 use Rattle.transition_formula.proofs.Fitting.{test_of_get, true-below}
 use Rattle.transition_formula.proofs.Ordering.{in_order-holds}
 use Rattle.posing.specs.Posing.{Done, ◌>>=◌, Always}

@@ -1,5 +1,7 @@
 -- ---- the laws of phases
 pub mod Whole
+-- star along the facets of a hull
+pub mod FacetStars
 -- those of repetitions by any rule
 pub mod Repetitions
 -- the halves of a split

@@ -9,7 +9,7 @@ use Rattle.linear_terms.specs.Expressions.{Made}
 use Rattle.linear_terms.specs.Polynomial.{Polynomial}
 use Rattle.transition_formula.specs.Meaning.{Holds}
 use Rattle.transition_formula.specs.Transition.{Transition, IsTransition, fits, is_below}
-use Rattle.transition_formula.proofs.Fitted.{fits-solvable}
+use Rattle.transition_formula.proofs.FittedFormulas.{fits-solvable}
 use Rattle.transition_formula.proofs.Fitting.{fitting}
 use Rattle.posing.specs.Posing.{Done, ◌>>=◌, Always}
 use Rattle.posing.proofs.Paths.{always_any, always_bind, always_weaker}

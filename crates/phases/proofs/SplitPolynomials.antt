@@ -26,9 +26,9 @@ use Rattle.linear_terms.proofs.Columns.{multiple_of-each, sum_of_polys-each}
 use Rattle.linear_terms.proofs.Normals.{normal_form-HasCanonicalTerms}
 use Rattle.transition_formula.specs.Rows.{each_once, opposites_met, tidied_rows, with_normal}
 use Rattle.transition_formula.specs.Transition.{Transition, every_column, is_below}
-use Rattle.transition_formula.proofs.Carried.{passes, tidied-passes}
+use Rattle.transition_formula.proofs.CarriedColumns.{passes, tidied-passes}
 use Rattle.transition_formula.proofs.Fitting.{below-true, true-below}
-use Rattle.transition_formula.proofs.Covered.{both, both_true, columns_from_test, test_from_columns}
+use Rattle.transition_formula.proofs.ColumnTests.{both, both_true, columns_from_test, test_from_columns}
 use Rattle.polyhedra.specs.Directions.{distinct, with_new}
 use Rattle.polyhedra.proofs.DirectionShapes.{each-distinct}
 use Rattle.phases.specs.Limits.{most_splits}

@@ -9,7 +9,7 @@ use Rattle.linear_terms.specs.declared.row.Case.{Case}
 use Rattle.transition_formula.specs.Composition.{after_case, identity_of, union_of, sequence_of, sequence_of_cases}
 use Rattle.transition_formula.specs.Meaning.{Covers, HoldsOfChains}
 use Rattle.transition_formula.specs.Transition.{Transition, IsTransition, IsFitted, AreFew, AreSolvable, fits}
-use Rattle.transition_formula.proofs.Covered.{both, both_true, lost}
+use Rattle.transition_formula.proofs.ColumnTests.{both, both_true, lost}
 use Rattle.transition_formula.proofs.Few.{all_few}
 use Rattle.transition_formula.proofs.Fitting.{below-true, fitting, sequence_of-fits}
 use Rattle.posing.specs.Posing.{Done, ◌>>=◌, Always}

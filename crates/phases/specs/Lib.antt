@@ -7,12 +7,14 @@ pub use Rattle.recurrence.specs.Star
 
 -- the numbers
 pub mod Limits
--- which rule has phases
+-- which rule has phases, and which facets
 pub mod Rules
 -- what holds of phases, whatever the answers are, as long as they are true
 pub mod Law
 -- one phase and then another
 pub mod Phases
+-- star along the facets of a hull
+pub mod FacetStar
 -- phases or star, by the rule
 pub mod Repetition
 -- the inequalities by which a body may split

@@ -6,7 +6,7 @@ ghost use Rattle.linear_terms.specs.Expressions.{Made};
 ghost use Rattle.transition_formula.specs.Loss.{error_losses};
 ghost use Rattle.transition_formula.specs.Rounds.{in_order};
 ghost use Rattle.transition_formula.specs.Transition.{IsSolvable};
-ghost use Rattle.posing.specs.Follows.{Follows};
+ghost use Rattle.posing.specs.Follows.{Asks};
 ghost use Rattle.posing.specs.Logs.{Adds, loss_notes};
 ghost use Rattle.polyhedra.specs.Infeasibility.{is_yes};
 ghost use Rattle.phases.specs.Phases.{body_where, case_excludes, case_excludes_by, case_where, cases_exclude, first_halves, halves_at, halves_by, halves_if, halves_of, has_cases, is_apart, is_as_long, order_excludes, rows_exclude, split, turns_where, with_first};
@@ -37,7 +37,7 @@ pub(crate) fn split<O: Oracle>(
     log: &mut Log,
 ) -> Result<Option<Halves>, WorkError>
     requires { IsSplittable body.now }
-    ensures { Follows O.asking oracle.old oracle.new log.old log.new result (split body.now) }
+    ensures { Asks O.asking oracle log result (split body.now) }
 {
     if body.cases().len() < 2 {
         return Ok(None);
@@ -56,8 +56,7 @@ fn first_halves<O: Oracle>(
 ) -> Result<Option<Halves>, WorkError>
     requires body { IsSplittable body.now }
     requires tried { AllByRecursion (IsOverEntries body.now.from) tried.now }
-    ensures { Follows O.asking oracle.old oracle.new log.old log.new result
-        (first_halves body.now tried.now) }
+    ensures { Asks O.asking oracle log result (first_halves body.now tried.now) }
 {
     for poly in tried {
         let found = halves_at(alloc, body, poly, oracle, log)?;
@@ -78,8 +77,7 @@ fn halves_at<O: Oracle>(
     log: &mut Log,
 ) -> Result<Option<Halves>, WorkError>
     requires { IsHalvable body.now poly.now }
-    ensures { Follows O.asking oracle.old oracle.new log.old log.new result
-        (halves_at body.now poly.now) }
+    ensures { Asks O.asking oracle log result (halves_at body.now poly.now) }
 {
     match contrary(alloc, poly) {
         Ok(opposite) => halves_by(alloc, body, poly, &opposite, oracle, log),
@@ -100,8 +98,7 @@ fn halves_by<O: Oracle>(
 ) -> Result<Option<Halves>, WorkError>
     requires split { IsHalvable body.now poly.now }
     requires opposite { IsHalvable body.now opposite.now }
-    ensures { Follows O.asking oracle.old oracle.new log.old log.new result
-        (halves_by body.now poly.now (Ok opposite.now)) }
+    ensures { Asks O.asking oracle log result (halves_by body.now poly.now (Ok opposite.now)) }
 {
     let first = turns_where(alloc, body, opposite, oracle, log)?;
     with_first(alloc, body, poly, opposite, first, oracle, log)
@@ -119,8 +116,7 @@ fn with_first<O: Oracle>(
 ) -> Result<Option<Halves>, WorkError>
     requires split { IsHalvable body.now poly.now }
     requires opposite { IsHalvable body.now opposite.now }
-    ensures { Follows O.asking oracle.old oracle.new log.old log.new result
-        (with_first body.now poly.now opposite.now first) }
+    ensures { Asks O.asking oracle log result (with_first body.now poly.now opposite.now first) }
 {
     if !has_cases(&first) {
         return Ok(None);
@@ -141,8 +137,7 @@ fn halves_of<O: Oracle>(
     log: &mut Log,
 ) -> Result<Option<Halves>, WorkError>
     requires { AreExcludable opposite.now second.cases }
-    ensures { Follows O.asking oracle.old oracle.new log.old log.new result
-        (halves_of body.now opposite.now first second) }
+    ensures { Asks O.asking oracle log result (halves_of body.now opposite.now first second) }
 {
     if !is_apart(body, &first, &second) {
         return Ok(None);
@@ -190,8 +185,7 @@ fn turns_where<O: Oracle>(
     log: &mut Log,
 ) -> Result<Formula, WorkError>
     requires { IsHalvable body.now poly.now }
-    ensures { Follows O.asking oracle.old oracle.new log.old log.new result
-        (turns_where poly.now body.now) }
+    ensures { Asks O.asking oracle log result (turns_where poly.now body.now) }
 {
     let begun = body_where(alloc, body, poly)?;
     settle(alloc, &begun, oracle, log)
@@ -238,8 +232,7 @@ fn cases_exclude<O: Oracle>(
     log: &mut Log,
 ) -> Result<bool, WorkError>
     requires { AreExcludable poly.now cases.now }
-    ensures { Follows O.asking oracle.old oracle.new log.old log.new result
-        (cases_exclude poly.now cases.now) }
+    ensures { Asks O.asking oracle log result (cases_exclude poly.now cases.now) }
 {
     for case in cases {
         if !case_excludes(alloc, poly, case, oracle, log)? {
@@ -259,8 +252,7 @@ fn case_excludes<O: Oracle>(
     log: &mut Log,
 ) -> Result<bool, WorkError>
     requires { IsExcludable poly.now case.now }
-    ensures { Follows O.asking oracle.old oracle.new log.old log.new result
-        (case_excludes poly.now case.now) }
+    ensures { Asks O.asking oracle log result (case_excludes poly.now case.now) }
 {
     let after = subst(alloc, poly, case.post.as_slice(), &[]);
     excludes_by(alloc, case, after, oracle, log)
@@ -276,8 +268,7 @@ fn excludes_by<O: Oracle>(
 ) -> Result<bool, WorkError>
     requires { IfOk after (λ q. IsSolvable (case_where q case.now)) }
     ensures { (stated : Made) → Gives cause (λ p. p) after stated
-        → Follows O.asking oracle.old oracle.new log.old log.new result
-        (case_excludes_by case.now stated) }
+        → Asks O.asking oracle log result (case_excludes_by case.now stated) }
 {
     match after {
         Ok(poly) => order_excludes(alloc, case, &poly, oracle, log),
@@ -308,7 +299,7 @@ fn order_excludes<O: Oracle>(
     log: &mut Log,
 ) -> Result<bool, WorkError>
     requires { IsSolvable (case_where poly.now case.now) }
-    ensures { Follows O.asking oracle.old oracle.new log.old log.new result
+    ensures { Asks O.asking oracle log result
         (order_excludes (in_order (case_where poly.now case.now))) }
 {
     let whole = case_where(case, poly)?;
@@ -341,7 +332,7 @@ fn rows_exclude<O: Oracle>(
     oracle: &mut O,
     log: &mut Log,
 ) -> Result<bool, WorkError>
-    ensures { Follows O.asking oracle.old oracle.new log.old log.new result (rows_exclude rows) }
+    ensures { Asks O.asking oracle log result (rows_exclude rows) }
 {
     if rows.is_empty() {
         return Ok(false);

@@ -1,7 +1,9 @@
-//! Phases of a loop: a body that goes first through turns that begin where some inequality is
-//! false, and then through turns that begin where it is true, is repeated phase by phase.
+//! What turns of a loop do, by the rule of the program: at once; along the facets of the exact hull
+//! of the body's changes too; or phase by phase, where a body goes first through turns that begin
+//! where some inequality is false, and then through turns that begin where it is true.
 #![tactic(auto)]
 
+mod facet_star;
 mod halving;
 mod law;
 mod phasing;
@@ -9,7 +11,7 @@ mod repeating;
 mod rules;
 mod splitting;
 
-pub use law::{law_of_phases, law_of_repetition};
+pub use law::{phases_cover_chains, repetitions_cover_chains};
 pub use phasing::star;
 pub use repeating::repetition;
-pub use rules::has_phases;
+pub use rules::{has_facets, has_phases};

@@ -1,6 +1,6 @@
 ghost use Rattle.std.specs.Prelude.{◌≡◌, IfOk};
 ghost use Rattle.transition_formula.specs.Meaning.{HoldsOfChains};
-ghost use Rattle.posing.specs.Follows.{Follows};
+ghost use Rattle.posing.specs.Follows.{Asks};
 ghost use Rattle.polyhedra.specs.Laws.{HaveCanonicalRows};
 ghost use Rattle.phases.specs.Law.{IsPhasable, IsPhased};
 ghost use Rattle.phases.specs.Phases.{in_turn, phased_star, phases_of};
@@ -35,8 +35,7 @@ pub fn star<O: Oracle>(
     log: &mut Log,
 ) -> Result<Formula, WorkError>
     requires { IsPhasable body.now voc.now }
-    ensures follows { Follows O.asking oracle.old oracle.new log.old log.new result
-        (phases_of body.now voc.now) }
+    ensures follows { Asks O.asking oracle log result (phases_of body.now voc.now) }
     ensures holds { IfOk result (HoldsOfChains body.now) }
     ensures fits { IfOk result (IsPhased body.now.to) }
 {
@@ -64,8 +63,7 @@ fn phased_star<O: Oracle>(
     log: &mut Log,
 ) -> Result<Formula, WorkError>
     requires { IsRoomy depth body.now voc.now }
-    ensures { Follows O.asking oracle.old oracle.new log.old log.new result
-        (phased_star depth voc.now body.now) }
+    ensures { Asks O.asking oracle log result (phased_star depth voc.now body.now) }
 {
     if depth == 0 {
         return recurrence::star(alloc, body, voc, oracle, log);
@@ -91,8 +89,7 @@ fn in_turn<O: Oracle>(
     log: &mut Log,
 ) -> Result<Formula, WorkError>
     requires { AreInTurn voc.now first.now second.now }
-    ensures { Follows O.asking oracle.old oracle.new log.old log.new result
-        (in_turn voc.now first.now second.now) }
+    ensures { Asks O.asking oracle log result (in_turn voc.now first.now second.now) }
 {
     let mut losses = Items::new(alloc);
     let both = seq(alloc, first, second, &mut losses)?;

@@ -12,9 +12,9 @@ use Rattle.linear_terms.specs.Value.{Valuation}
 use Rattle.transition_formula.specs.Meaning.{numbers}
 use Rattle.transition_formula.specs.Rounds.{in_order, solved_answer, Stays}
 use Rattle.transition_formula.specs.Transition.{every_column, every_column_of, is_below, fits}
-use Rattle.transition_formula.proofs.Covered.{both, both_true}
+use Rattle.transition_formula.proofs.ColumnTests.{both, both_true}
 use Rattle.transition_formula.proofs.Fitting.{fitting, from_fitting}
-use Rattle.transition_formula.proofs.Kept.{kept-fits}
+use Rattle.transition_formula.proofs.KeptCases.{kept-fits}
 use Rattle.transition_formula.proofs.Ordering.{in_order-holds}
 use Rattle.posing.specs.Posing.{Done, ◌>>=◌, Always}
 use Rattle.posing.proofs.Paths.{always_bind}

@@ -21,8 +21,8 @@ use Rattle.linear_terms.proofs.Canonical.{IsCanonical-column}
 use Rattle.transition_formula.specs.Meaning.{numbers, HoldsCase, HoldsSome, Holds, Covers}
 use Rattle.transition_formula.specs.Rounds.{in_order, solved_answer, Stays}
 use Rattle.transition_formula.specs.Transition.{Transition, every_column, every_column_of, is_below, fits, IsTransition, is_fitted, IsSolvable}
-use Rattle.transition_formula.proofs.Fitted.{fits-solvable}
-use Rattle.transition_formula.proofs.Covered.{both, both_true, more_columns, test_from_columns}
+use Rattle.transition_formula.proofs.FittedFormulas.{fits-solvable}
+use Rattle.transition_formula.proofs.ColumnTests.{both, both_true, more_columns, test_from_columns}
 use Rattle.transition_formula.proofs.Fitting.{fitting, from_fitting, below-true, true-below}
 use Rattle.farkas_check.specs.declared.stratum.Relation.{Relation}
 use Rattle.posing.specs.Posing.{Posing, Done, Noted, Asked, ◌>>=◌, each, Always}

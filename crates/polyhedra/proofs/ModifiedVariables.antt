@@ -13,7 +13,7 @@ use Rattle.linear_terms.specs.Expressions.{Made, or_zero}
 use Rattle.linear_terms.specs.Polynomial.{column_of, constant_of}
 use Rattle.transition_formula.specs.Loss.{losses_of}
 use Rattle.transition_formula.specs.Transition.{Transition}
-use Rattle.transition_formula.proofs.Telling.{Tells, difference_of_polys-tells}
+use Rattle.transition_formula.proofs.NotedErrors.{Tells, difference_of_polys-tells}
 use Rattle.farkas_check.specs.declared.stratum.Change.{Change}
 use Rattle.polyhedra.specs.declared.changes.Moves.{Moves}
 use Rattle.polyhedra.specs.Changes.{poly_at, change, is_zero, is_modified, is_exact, modified_variables, moving, changes_in, changes_of}

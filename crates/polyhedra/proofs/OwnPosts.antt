@@ -23,8 +23,8 @@ use Rattle.transition_formula.specs.Renumbering.{occurs_in, count_below, renumbe
 use Rattle.transition_formula.specs.Rounds.{with_rows, with_solved, round_at, solved_first, round, rounds, in_order, solved_answer, Stays}
 use Rattle.transition_formula.specs.Rows.{tidied_rows}
 use Rattle.transition_formula.specs.Transition.{every_column, every_column_of}
-use Rattle.transition_formula.proofs.Carried.{tidied-passes}
-use Rattle.transition_formula.proofs.Covered.{both, both_true, columns_from_test, test_from_columns, more_columns, Carries, substituted-carries, rows_by-covered, posts_by-length}
+use Rattle.transition_formula.proofs.CarriedColumns.{tidied-passes}
+use Rattle.transition_formula.proofs.ColumnTests.{both, both_true, columns_from_test, test_from_columns, more_columns, Carries, substituted-carries, rows_by-covered, posts_by-length}
 use Rattle.transition_formula.proofs.Loops.{met_by, or_left, or_right}
 use Rattle.transition_formula.proofs.Rounding.{test_removed, test_got}
 use Rattle.transition_formula.proofs.Truths.{polys_same}

@@ -17,7 +17,7 @@ use Rattle.linear_terms.specs.Replacement.{put_in}
 use Rattle.linear_terms.proofs.Canonical.{IsCanonical-nil, IsCanonical-sum_of_polys, IsCanonical-substituted}
 use Rattle.linear_terms.proofs.Columns.{EachColumn, sum_of_polys-each, multiple_of-each, product_of_polys-each, substituted-each}
 use Rattle.transition_formula.specs.Transition.{every_column}
-use Rattle.transition_formula.proofs.Covered.{test_from_columns}
+use Rattle.transition_formula.proofs.ColumnTests.{test_from_columns}
 use Rattle.polyhedra.specs.Bounds.{put_in_for}
 use Rattle.polyhedra.proofs.PutIn.{put_in_for-substituted}
 use Rattle.polyhedra.proofs.RowShapes.{HasIfMade}

@@ -4,7 +4,7 @@ use Rattle.std.specs.Prelude.{IsTrue, ◌==◌, ◌↔◌}
 use Rattle.std.specs.Cmp.Lexicographic.{pointwise}
 use Rattle.std.proofs.lemmas.Map.Views.{exact_unsigned_eq}
 use Rattle.linear_terms.specs.Equality.{poly_eq, poly_eq_equiv}
-use Rattle.transition_formula.proofs.Covered.{both, both_true}
+use Rattle.transition_formula.proofs.ColumnTests.{both, both_true}
 use Rattle.transition_formula.proofs.Truths.{polys_same}
 use Rattle.transition_formula.specs.Transition.{Transition}
 use Rattle.polyhedra.specs.Laws.{IsBetween}

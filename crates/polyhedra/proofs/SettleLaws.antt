@@ -10,8 +10,8 @@ use Rattle.linear_terms.specs.declared.row.Case.{Case}
 use Rattle.transition_formula.specs.Meaning.{numbers, HoldsCase, HoldsLeft, HoldsSome, Covers}
 use Rattle.transition_formula.specs.Rounds.{in_order, solved_answer, Stays}
 use Rattle.transition_formula.specs.Transition.{fits, IsTransition, IsSolvable}
-use Rattle.transition_formula.proofs.Covered.{both, both_true}
-use Rattle.transition_formula.proofs.Kept.{kept-fits}
+use Rattle.transition_formula.proofs.ColumnTests.{both, both_true}
+use Rattle.transition_formula.proofs.KeptCases.{kept-fits}
 use Rattle.transition_formula.proofs.Ordering.{in_order-holds}
 use Rattle.farkas_check.specs.declared.answer.Answer.{Answer}
 use Rattle.farkas_check.specs.declared.answer.Answer.TheVariants as answer

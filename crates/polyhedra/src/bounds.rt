@@ -8,7 +8,7 @@ ghost use Rattle.linear_terms.specs.TermError.{cause};
 ghost use Rattle.transition_formula.specs.Loss.{answer_of, losses_of};
 ghost use Rattle.farkas_check.specs.declared.question.Goal.{Goal};
 ghost use Rattle.farkas_check.specs.declared.question.Question.TheVariants.{Sup};
-ghost use Rattle.posing.specs.Follows.{Follows};
+ghost use Rattle.posing.specs.Follows.{Asks};
 ghost use Rattle.posing.specs.Logs.{Adds, loss_notes};
 ghost use Rattle.posing.specs.Posing.{each};
 ghost use Rattle.polyhedra.specs.Bounds.{put_in_for, bound_of, bound_by, bound_in, before_row, after_row, rows_with_entry_bound, rows_with_exit_bound, so_often, change_row, bounded_change, IsCovered, IsCoveredByPosts, for_entries};
@@ -38,7 +38,7 @@ fn ask_bound<O: Oracle>(
     log: &mut Log,
 ) -> Result<Option<i128>, WorkError>
     ensures { (goals : List Goal) → question.now ≡ Sup goals →
-        Follows O.asking oracle.old oracle.new log.old log.new result (bound_by (Ok goals)) }
+        Asks O.asking oracle log result (bound_by (Ok goals)) }
 {
     let answer = noted_answer(alloc, question, oracle, log)?;
     Ok(bound_in(&answer))
@@ -62,7 +62,7 @@ pub fn bound_by<O: Oracle>(
     log: &mut Log,
 ) -> Result<Option<i128>, WorkError>
     ensures { (stated : Result (List Goal) TermError) → Gives cause (λ g. g) goals stated →
-        Follows O.asking oracle.old oracle.new log.old log.new result (bound_by stated) }
+        Asks O.asking oracle log result (bound_by stated) }
 {
     match goals {
         Ok(goals) => ask_bound(alloc, &Question::Sup(goals), oracle, log),
@@ -84,7 +84,7 @@ fn bound_over<O: Oracle>(
 ) -> Result<Option<i128>, WorkError>
     ensures follows { (cases : List Case) (objective : Case → Made) → AreOver cases goals.old →
         Gives cause (λ ps. ps) objectives (objectives_of objective cases) →
-        Follows O.asking oracle.old oracle.new log.old log.new result (bound_of cases objective) }
+        Asks O.asking oracle log result (bound_of cases objective) }
     ensures goals { (cases : List Case) → AreOver cases goals.old → AreOver cases goals.new }
 {
     match objectives {
@@ -104,7 +104,7 @@ fn bound_with<O: Oracle>(
     oracle: &mut O,
     log: &mut Log,
 ) -> Result<Option<i128>, WorkError>
-    ensures follows { Follows O.asking oracle.old oracle.new log.old log.new result
+    ensures follows { Asks O.asking oracle log result
         (bound_by (Ok (with_objectives goals.old objectives))) }
     ensures goals { goals.new ≡ with_objectives goals.old objectives }
 {
@@ -172,7 +172,7 @@ pub fn bounds_before<O: Oracle>(
     oracle: &mut O,
     log: &mut Log,
 ) -> Result<Items<Row>, WorkError>
-    ensures { Follows O.asking oracle.old oracle.new log.old log.new result
+    ensures { Asks O.asking oracle log result
         (each (rows_with_entry_bound cases.now) rows directions.now) }
 {
     let mut goals = goals_over(alloc, cases)?;
@@ -193,8 +193,7 @@ fn bound_before<O: Oracle>(
     log: &mut Log,
 ) -> Result<Items<Row>, WorkError>
     requires { AreOver cases.now goals.old }
-    ensures follows { Follows O.asking oracle.old oracle.new log.old log.new result
-        (rows_with_entry_bound cases.now rows d.now) }
+    ensures follows { Asks O.asking oracle log result (rows_with_entry_bound cases.now rows d.now) }
     ensures goals { AreOver cases.now goals.new }
 {
     let objectives = objectives_before(alloc, cases, d);
@@ -239,7 +238,7 @@ pub fn bounds_after<O: Oracle>(
 ) -> Result<Items<Row>, WorkError>
     requires posts { All (IsCoveredByPosts cases.now) directions.now }
     requires rows { All (IsCovered (length after.now)) directions.now }
-    ensures { Follows O.asking oracle.old oracle.new log.old log.new result
+    ensures { Asks O.asking oracle log result
         (each (rows_with_exit_bound cases.now after.now) rows directions.now) }
 {
     let mut goals = goals_over(alloc, cases)?;
@@ -263,7 +262,7 @@ fn bound_after<O: Oracle>(
     requires posts { IsCoveredByPosts cases.now d.now }
     requires rows { IsCovered (length after.now) d.now }
     requires goals { AreOver cases.now goals.old }
-    ensures follows { Follows O.asking oracle.old oracle.new log.old log.new result
+    ensures follows { Asks O.asking oracle log result
         (rows_with_exit_bound cases.now after.now rows d.now) }
     ensures goals { AreOver cases.now goals.new }
 {
@@ -318,7 +317,7 @@ pub fn bounds_on_changes<O: Oracle>(
     requires posts { All (λ case. length case.post ≡ to) cases.now }
     requires columns { All (IsCovered to) directions.now }
     requires rows { All (IsCovered (length moved.now)) directions.now }
-    ensures { Follows O.asking oracle.old oracle.new log.old log.new result
+    ensures { Asks O.asking oracle log result
         (each (bounded_change cases.now moved.now turns) rows directions.now) }
 {
     let tables = tables_of(alloc, true, cases, to)?;
@@ -349,7 +348,7 @@ fn bound_on_changes<O: Oracle>(
     requires tables { AreTables cases.now tables.now d.now }
     requires rows { IsCovered (length moved.now) d.now }
     requires goals { AreOver cases.now goals.old }
-    ensures follows { Follows O.asking oracle.old oracle.new log.old log.new result
+    ensures follows { Asks O.asking oracle log result
         (bounded_change cases.now moved.now turns rows d.now) }
     ensures goals { AreOver cases.now goals.new }
 {

@@ -1,6 +1,6 @@
 ghost use Rattle.std.specs.Prelude.{◌≡◌, length, take, IfOk};
 ghost use Rattle.transition_formula.specs.Transition.{IsSolvable};
-ghost use Rattle.posing.specs.Follows.{Follows};
+ghost use Rattle.posing.specs.Follows.{Asks};
 ghost use Rattle.posing.specs.Logs.{Adds};
 ghost use Rattle.polyhedra.specs.Finish.{told_count, cut_notes, cut_case, cut, finish_of_case};
 
@@ -21,7 +21,7 @@ pub fn finish<O: Oracle>(
     log: &mut Log,
 ) -> Result<Option<Case>, WorkError>
     requires { IsSolvable case.now }
-    ensures { Follows O.asking oracle.old oracle.new log.old log.new result (finish_of_case case.now) }
+    ensures { Asks O.asking oracle log result (finish_of_case case.now) }
 {
     match solve_noted(alloc, case, log)? {
         None => Ok(None),

@@ -4,7 +4,7 @@ ghost use Rattle.polyhedra.specs.Directions.{directions};
 ghost use Rattle.polyhedra.specs.Vocabulary.{IsVocabulary};
 ghost use Rattle.transition_formula.specs.Meaning.{Covers};
 ghost use Rattle.transition_formula.specs.Transition.{IsTransition};
-ghost use Rattle.posing.specs.Follows.{Follows};
+ghost use Rattle.posing.specs.Follows.{Asks};
 ghost use Rattle.posing.specs.Logs.{Adds, loss_notes};
 ghost use Rattle.posing.specs.Posing.{each};
 ghost use Rattle.posing.specs.declared.note.Note.TheVariants as note;
@@ -38,8 +38,7 @@ pub fn fit<O: Oracle>(
     log: &mut Log,
 ) -> Result<Formula, WorkError>
     requires { IsBetween f.now from.now to.now }
-    ensures follows { Follows O.asking oracle.old oracle.new log.old log.new result
-        (fitted_formula f.now from.now to.now) }
+    ensures follows { Asks O.asking oracle log result (fitted_formula f.now from.now to.now) }
     ensures covers { IfOk result (λ g. Covers g f.now) }
     ensures small { IfOk result (IsSmall f.now) }
 {
@@ -68,8 +67,7 @@ fn fitted_formula<O: Oracle>(
     log: &mut Log,
 ) -> Result<Formula, WorkError>
     requires { IsBetween f.now from.now to.now }
-    ensures { Follows O.asking oracle.old oracle.new log.old log.new result
-        (fitted_formula f.now from.now to.now) }
+    ensures { Asks O.asking oracle log result (fitted_formula f.now from.now to.now) }
 {
     if f.is_fitted() {
         let copy = f.clone()?;
@@ -89,8 +87,7 @@ fn noted_squash<O: Oracle>(
     log: &mut Log,
 ) -> Result<Formula, WorkError>
     requires { IsBetween f.now from.now to.now }
-    ensures { Follows O.asking oracle.old oracle.new log.old log.new result
-        (noted_squash f.now from.now to.now) }
+    ensures { Asks O.asking oracle log result (noted_squash f.now from.now to.now) }
 {
     let notes = squash_notes(alloc, f.cases().len())?;
     log.add_notes(notes)?;
@@ -116,8 +113,7 @@ fn squash<O: Oracle>(
     log: &mut Log,
 ) -> Result<Formula, WorkError>
     requires { IsBetween f.now from.now to.now }
-    ensures { Follows O.asking oracle.old oracle.new log.old log.new result
-        (squashed_formula f.now from.now to.now) }
+    ensures { Asks O.asking oracle log result (squashed_formula f.now from.now to.now) }
 {
     let one = from.same(to);
     let case = squashed_case(alloc, one, f, from, to, oracle, log)?;
@@ -149,8 +145,7 @@ fn squashed_case<O: Oracle>(
 ) -> Result<Case, WorkError>
     requires between { IsBetween f.now from.now to.now }
     requires one { one ≡ are_same from.now to.now }
-    ensures { Follows O.asking oracle.old oracle.new log.old log.new result
-        (squashed_case one f.now from.now to.now) }
+    ensures { Asks O.asking oracle log result (squashed_case one f.now from.now to.now) }
 {
     let movement = movement_of(alloc, one, f)?;
     let aux = movement.modified.len() as u32;
@@ -196,8 +191,7 @@ fn squash_rows<O: Oracle>(
     requires moving { movement.moving ≡ changes.moving one f.now }
     requires cases { movement.cases ≡ changes.changes_of one f.now }
     requires occurring { movement.occurring ≡ changes.occurring one f.now }
-    ensures { Follows O.asking oracle.old oracle.new log.old log.new result
-        (squash_rows one f.now from.now to.now) }
+    ensures { Asks O.asking oracle log result (squash_rows one f.now from.now to.now) }
 {
     let Movement {
         modified,
@@ -248,7 +242,7 @@ fn change_relations<O: Oracle>(
     requires moving { moving.now ≡ changes.moving one f.now }
     requires cases { cases ≡ changes.changes_of one f.now }
     requires occurring { occurring.now ≡ changes.occurring one f.now }
-    ensures { Follows O.asking oracle.old oracle.new log.old log.new result (change_relations one f.now) }
+    ensures { Asks O.asking oracle log result (change_relations one f.now) }
 {
     let lower = entries_of(alloc, occurring)?;
     let found = relations_of(alloc, stratum_of(cases, lower), oracle, log)?;
@@ -311,8 +305,7 @@ fn bounds<O: Oracle>(
     requires between { IsBetween f.now from.now to.now }
     requires one { one ≡ are_same from.now to.now }
     requires modified { modified.now ≡ changes.modified_variables one f.now }
-    ensures { Follows O.asking oracle.old oracle.new log.old log.new result
-        (with_bounds one f.now from.now to.now rows) }
+    ensures { Asks O.asking oracle log result (with_bounds one f.now from.now to.now rows) }
 {
     let entry = directions(alloc, from)?;
     let before = bounds_before(alloc, rows, f.cases(), entry.as_slice(), oracle, log)?;
@@ -346,7 +339,7 @@ fn exit_bounds<O: Oracle>(
     requires valid { IsVocabulary to.now }
     requires few { length modified.now < 2 ^ 32 }
     requires modified { modified.now ≡ changes.modified_variables one f.now }
-    ensures { Follows O.asking oracle.old oracle.new log.old log.new result
+    ensures { Asks O.asking oracle log result
         (each (rows_with_exit_bound f.now.cases (posts_after one f.now)) rows (directions to.now)) }
 {
     let posts = posts_after(alloc, one, modified, f.to())?;
@@ -380,8 +373,7 @@ fn differences<O: Oracle>(
     requires few { length modified.now < 2 ^ 32 }
     requires modified { modified.now ≡ changes.modified_variables one f.now }
     requires entry { entry.now ≡ directions from.now }
-    ensures { Follows O.asking oracle.old oracle.new log.old log.new result
-        (with_differences one f.now from.now rows) }
+    ensures { Asks O.asking oracle log result (with_differences one f.now from.now rows) }
 {
     if !one {
         return Ok(rows);

@@ -1,5 +1,5 @@
 ghost use Rattle.std.specs.Prelude.{◌≡◌, IfOk};
-ghost use Rattle.posing.specs.Follows.{Follows};
+ghost use Rattle.posing.specs.Follows.{Asks};
 ghost use Rattle.posing.specs.Logs.{Adds};
 ghost use Rattle.polyhedra.specs.Infeasibility.{assent, is_yes, limits_of, noted_answer};
 
@@ -17,7 +17,7 @@ pub(crate) fn assent<O: Oracle>(
     oracle: &mut O,
     log: &mut Log,
 ) -> Result<bool, WorkError>
-    ensures { Follows O.asking oracle.old oracle.new log.old log.new result (assent question.now) }
+    ensures { Asks O.asking oracle log result (assent question.now) }
 {
     let answer = noted_answer(alloc, question, oracle, log)?;
     Ok(is_yes(&answer))
@@ -31,8 +31,7 @@ pub(crate) fn noted_answer<O: Oracle>(
     oracle: &mut O,
     log: &mut Log,
 ) -> Result<Answer, WorkError>
-    ensures { Follows O.asking oracle.old oracle.new log.old log.new result
-        (noted_answer question.now) }
+    ensures { Asks O.asking oracle log result (noted_answer question.now) }
 {
     let answer = ask(alloc, question, oracle, log)?;
     note_limit(alloc, &answer, log)?;
@@ -46,8 +45,7 @@ pub(crate) fn answer_once<O: Oracle>(
     oracle: &mut O,
     log: &mut Log,
 ) -> Result<Answer, WorkError>
-    ensures { Follows O.asking oracle.old oracle.new log.old log.new result
-        (noted_answer question) }
+    ensures { Asks O.asking oracle log result (noted_answer question) }
 {
     noted_answer(alloc, &question, oracle, log)
 }

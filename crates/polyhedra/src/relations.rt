@@ -12,7 +12,7 @@ ghost use Rattle.linear_terms.specs.declared.error.TermError.{TermError};
 ghost use Rattle.linear_terms.specs.declared.row.Row.{Row};
 ghost use Rattle.transition_formula.specs.Loss.{answer_of, losses_of};
 ghost use Rattle.posing.specs.Logs.{Adds, loss_notes};
-ghost use Rattle.posing.specs.Follows.{Follows};
+ghost use Rattle.posing.specs.Follows.{Asks};
 ghost use Rattle.polyhedra.specs.Relations.{relations_of, relations_in};
 ghost use Rattle.polyhedra.specs.Squash.{relation_row, relation_rows, relation_losses};
 
@@ -34,8 +34,7 @@ pub fn relations_of<O: Oracle>(
     oracle: &mut O,
     log: &mut Log,
 ) -> Result<Option<Items<Relation>>, WorkError>
-    ensures { Follows O.asking oracle.old oracle.new log.old log.new result
-        (relations_of stratum.cases stratum.lower) }
+    ensures { Asks O.asking oracle log result (relations_of stratum.cases stratum.lower) }
 {
     let terms = term_count(stratum.cases());
     let lower = stratum.lower().len();

@@ -3,7 +3,7 @@ ghost use Rattle.farkas_check.specs.declared.question.Question.TheVariants.{Infe
 ghost use Rattle.transition_formula.specs.Meaning.{Covers};
 ghost use Rattle.transition_formula.specs.Rounds.{in_order};
 ghost use Rattle.transition_formula.specs.Transition.{IsSolvable, AreSolvable};
-ghost use Rattle.posing.specs.Follows.{Follows};
+ghost use Rattle.posing.specs.Follows.{Asks};
 ghost use Rattle.posing.specs.Logs.{Adds, loss_notes};
 ghost use Rattle.polyhedra.specs.Infeasibility.{infeasible};
 ghost use Rattle.polyhedra.specs.Settle.{settled_formula, settled_cases, with_settled, settled_case, feasible, unless};
@@ -26,8 +26,7 @@ pub fn settle<O: Oracle>(
     log: &mut Log,
 ) -> Result<Formula, WorkError>
     requires { AreSolvable f.now.cases }
-    ensures follows { Follows O.asking oracle.old oracle.new log.old log.new result
-        (settled_formula f.now) }
+    ensures follows { Asks O.asking oracle log result (settled_formula f.now) }
     ensures covers { IfOk result (λ g. Covers g f.now) }
 {
     let given = f.cases();
@@ -58,8 +57,7 @@ fn settle_cases<O: Oracle>(
     log: &mut Log,
 ) -> Result<Items<Case>, WorkError>
     requires { AreSolvable cases.now }
-    ensures { Follows O.asking oracle.old oracle.new log.old log.new result
-        (settled_cases cases.now) }
+    ensures { Asks O.asking oracle log result (settled_cases cases.now) }
 {
     let mut made = Items::new(alloc);
     for case in cases {
@@ -78,8 +76,7 @@ fn add_settled<O: Oracle>(
     log: &mut Log,
 ) -> Result<Items<Case>, WorkError>
     requires { IsSolvable case.now }
-    ensures { Follows O.asking oracle.old oracle.new log.old log.new result
-        (with_settled made case.now) }
+    ensures { Asks O.asking oracle log result (with_settled made case.now) }
 {
     let left = settle_case(alloc, case, oracle, log)?;
     Ok(with_left(made, left)?)
@@ -94,8 +91,7 @@ fn settle_case<O: Oracle>(
     log: &mut Log,
 ) -> Result<Option<Case>, WorkError>
     requires { IsSolvable case.now }
-    ensures { Follows O.asking oracle.old oracle.new log.old log.new result
-        (settled_case case.now) }
+    ensures { Asks O.asking oracle log result (settled_case case.now) }
 {
     match solve_noted(alloc, case, log)? {
         None => Ok(None),
@@ -130,7 +126,7 @@ fn feasible<O: Oracle>(
     oracle: &mut O,
     log: &mut Log,
 ) -> Result<Option<Case>, WorkError>
-    ensures { Follows O.asking oracle.old oracle.new log.old log.new result (feasible case) }
+    ensures { Asks O.asking oracle log result (feasible case) }
 {
     if case.rows.is_empty() {
         return Ok(Some(case));
@@ -146,7 +142,7 @@ fn are_refuted<O: Oracle>(
     oracle: &mut O,
     log: &mut Log,
 ) -> Result<bool, WorkError>
-    ensures { Follows O.asking oracle.old oracle.new log.old log.new result (infeasible rows.now) }
+    ensures { Asks O.asking oracle log result (infeasible rows.now) }
 {
     let question = question_of(rows)?;
     assent(alloc, &question, oracle, log)

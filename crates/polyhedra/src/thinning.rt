@@ -5,7 +5,7 @@ ghost use Rattle.farkas_check.specs.declared.question.Question.TheVariants.{Infe
 ghost use Rattle.linear_terms.specs.declared.error.TermError.{TermError};
 ghost use Rattle.linear_terms.specs.declared.row.Row.{Row};
 ghost use Rattle.linear_terms.specs.TermError.{cause};
-ghost use Rattle.posing.specs.Follows.{Follows};
+ghost use Rattle.posing.specs.Follows.{Asks};
 ghost use Rattle.polyhedra.specs.Thin.{thinning_with, thinning_by, thinning_at, thinned_rows, thinned_case};
 ghost use Rattle.polyhedra.specs.Laws.{IsWider, ThinningCovers};
 
@@ -26,8 +26,7 @@ pub fn thin<O: Oracle>(
     oracle: &mut O,
     log: &mut Log,
 ) -> Result<Case, WorkError>
-    ensures follows { Follows O.asking oracle.old oracle.new log.old log.new result
-        (thinned_case case.now) }
+    ensures follows { Asks O.asking oracle log result (thinned_case case.now) }
     ensures covers { IfOk result (IsWider case.now) }
 {
     let copy = case.clone()?;
@@ -46,7 +45,7 @@ pub(crate) fn thin_case<O: Oracle>(
     oracle: &mut O,
     log: &mut Log,
 ) -> Result<Case, WorkError>
-    ensures { Follows O.asking oracle.old oracle.new log.old log.new result (thinned_case case) }
+    ensures { Asks O.asking oracle log result (thinned_case case) }
 {
     let Case { aux, rows, post } = case;
     let rows = thin_rows(alloc, rows, oracle, log)?;
@@ -59,7 +58,7 @@ fn thin_rows<O: Oracle>(
     oracle: &mut O,
     log: &mut Log,
 ) -> Result<Items<Row>, WorkError>
-    ensures { Follows O.asking oracle.old oracle.new log.old log.new result (thinned_rows rows) }
+    ensures { Asks O.asking oracle log result (thinned_rows rows) }
 {
     let mut left = rows;
     let mut place = left.len();
@@ -79,8 +78,7 @@ fn thin_at<O: Oracle>(
     oracle: &mut O,
     log: &mut Log,
 ) -> Result<Items<Row>, WorkError>
-    ensures { Follows O.asking oracle.old oracle.new log.old log.new result
-        (thinning_at rows place) }
+    ensures { Asks O.asking oracle log result (thinning_at rows place) }
 {
     if place >= rows.len() {
         return Ok(rows);
@@ -106,8 +104,7 @@ fn thin_by<O: Oracle>(
 ) -> Result<Items<Row>, WorkError>
     requires { place < length rows }
     ensures { (stated : Result Row TermError) → Gives cause (λ r. r) negation stated
-        → Follows O.asking oracle.old oracle.new log.old log.new result
-        (thinning_by stated place rows) }
+        → Asks O.asking oracle log result (thinning_by stated place rows) }
 {
     match negation {
         Ok(row) => thin_with(alloc, rows, place, row, oracle, log),
@@ -129,8 +126,7 @@ fn thin_with<O: Oracle>(
     log: &mut Log,
 ) -> Result<Items<Row>, WorkError>
     requires { place < length rows }
-    ensures { Follows O.asking oracle.old oracle.new log.old log.new result
-        (thinning_with negation place rows) }
+    ensures { Asks O.asking oracle log result (thinning_with negation place rows) }
 {
     let (others, row) = row_and_others(rows, place);
     let question = question_of(others, negation)?;

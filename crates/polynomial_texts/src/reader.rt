@@ -77,7 +77,7 @@ fn row_of(reading: &mut Reading, text: &str) -> Row {
     }
     let poly = match text.strip_suffix("= 0") {
         Some(left) => poly_of(reading, left),
-        None => reading.malformed(),
+        None => reading.zero_at_fault(),
     };
     Row {
         poly,
@@ -108,7 +108,7 @@ fn with_differences(reading: &mut Reading, sum: Poly, text: &str) -> Poly {
 fn with_term(reading: &mut Reading, sum: &Poly, text: &str, negative: bool) -> Poly {
     let term = signed_term(reading, text, negative);
     let made = add(reading.alloc(), sum, &term);
-    reading.taken(made)
+    reading.value_of(made)
 }
 
 /// A term, turned in sign or not. The least number of 128 bits has its sign before it.
@@ -133,7 +133,7 @@ fn product(reading: &mut Reading, text: &str, negative: bool) -> Poly {
 fn with_factor(reading: &mut Reading, product: &Poly, text: &str) -> Poly {
     let factor = signed_factor(reading, text, false);
     let made = mul(reading.alloc(), product, &factor);
-    reading.taken(made)
+    reading.value_of(made)
 }
 
 /// A factor, turned in sign or not: `x0` is entry column 0 and `$1` the first auxiliary.
@@ -151,9 +151,9 @@ fn signed_factor(reading: &mut Reading, text: &str, negative: bool) -> Poly {
 
 fn signed_column(reading: &mut Reading, col: Col, negative: bool) -> Poly {
     let column = Poly::column(reading.alloc(), col);
-    let column = reading.taken(column);
+    let column = reading.value_of(column);
     let made = scale(reading.alloc(), &column, if negative { -1 } else { 1 });
-    reading.taken(made)
+    reading.value_of(made)
 }
 
 fn signed_number(reading: &mut Reading, text: &str, negative: bool) -> Poly {

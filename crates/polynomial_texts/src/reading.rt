@@ -31,7 +31,7 @@ impl Reading {
     }
 
     /// Zero, in place of what is none.
-    pub(crate) fn malformed(&mut self) -> Poly {
+    pub(crate) fn zero_at_fault(&mut self) -> Poly {
         self.fail(PolynomialError::Malformed);
         Poly::constant(self.alloc, 0)
     }
@@ -60,12 +60,12 @@ impl Reading {
     pub(crate) fn constant(&mut self, text: &str) -> Poly {
         match text.parse::<i128>() {
             Ok(number) => Poly::constant(self.alloc, number),
-            Err(_) => self.malformed(),
+            Err(_) => self.zero_at_fault(),
         }
     }
 
     /// What an operation made.
-    pub(crate) fn taken(&mut self, made: Result<Poly, TermError>) -> Poly {
+    pub(crate) fn value_of(&mut self, made: Result<Poly, TermError>) -> Poly {
         match made {
             Ok(poly) => poly,
             Err(fault) => {

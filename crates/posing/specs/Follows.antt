@@ -1,4 +1,6 @@
 -- What a call that asks an oracle did: how far the answers that it took led its stated computation.
+use denote.MutBor.{MutBor}
+use denote.Triple.Both.{Both}
 use Rattle.std.specs.Prelude.{◌≡◌, List, ◌++◌, Option, None, Result, Ok, Err}
 use Rattle.std.specs.Option.{option_map}
 use Rattle.farkas_check.specs.declared.answer.Answer.{Answer}
@@ -78,3 +80,15 @@ ComesTo O old new before after (Err error) p = FailsAt O old new before after er
 pub record Follows {S A : Type 0} (O : Asking S) (old new : S) (before after : Log)
     (result : Result A WorkError) (p : Posing A) : Type 0 where
   pub comes : ComesTo O old new before after result p
+
+-- what is lent to a call: what a reference points at as the call begins, its entry, and as it ends,
+-- its exit
+abbrev pub Lent : Type 0 → Type 0
+Lent X = Both (MutBor X) (MutBor X)
+
+-- a call that is lent an oracle and a log asks what the stated computation asks, and notes and logs
+-- what that does
+abbrev pub Asks : {S A : Type 0} → Asking S → Lent S → Lent Log → Result A WorkError → Posing A
+    → Type 0
+Asks O oracle log result p =
+    Follows O oracle.entry.now oracle.exit.now log.entry.now log.exit.now result p

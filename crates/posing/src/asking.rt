@@ -1,7 +1,7 @@
 ghost use Rattle.std.specs.Prelude.{List};
 ghost use Rattle.posing.specs.declared.note.Note.{Note};
 ghost use Rattle.posing.specs.Posing.{answer_to};
-ghost use Rattle.posing.specs.Follows.{Follows};
+ghost use Rattle.posing.specs.Follows.{Asks, Follows};
 ghost use Rattle.posing.specs.Logs.{log_of};
 
 use crate::{Log, WorkError};
@@ -18,8 +18,7 @@ pub fn ask<O: Oracle>(
     oracle: &mut O,
     log: &mut Log,
 ) -> Result<Answer, WorkError>
-    ensures { Follows O.asking oracle.old oracle.new log.old log.new result
-        (answer_to question.now) }
+    ensures { Asks O.asking oracle log result (answer_to question.now) }
 {
     let mut answers = mem::replace(&mut log.answers, Items::new(alloc)).into_vec();
     let result = answer_into(alloc, question, oracle, &mut answers);

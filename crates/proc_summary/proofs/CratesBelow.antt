@@ -5,7 +5,7 @@ use Rattle.std.specs.Prelude.{Some}
 use Rattle.std.specs.List.{slice_get}
 pub use Rattle.transition_formula.proofs.HiddenColumns.{hidden-holds, hidden-fits}
 pub use Rattle.transition_formula.proofs.SomePosts.{with_posts-holds, with_posts-fits}
-pub use Rattle.transition_formula.proofs.Fitted.{fits-solvable, fitted-solvable}
+pub use Rattle.transition_formula.proofs.FittedFormulas.{fits-solvable, fitted-solvable}
 pub use Rattle.transition_formula.proofs.Fitting.{identity-fits}
 pub use Rattle.transition_formula.proofs.Meanings.{identity-holds}
 pub use Rattle.leaf_cases.proofs.Graphs.{EdgeFits, all_get, act-fits, act_of_edge}

@@ -32,6 +32,7 @@ use Rattle.leaf_cases.specs.Conditions.{IsKnown, exits_of}
 use Rattle.leaf_cases.specs.Summaries.{SummaryIsMet, exit_values, if_returned}
 use Rattle.vocabularies.specs.Ends.{entry_of, entry_width, exit_width, full_of, value_width}
 use Rattle.vocabularies.specs.Ends as ends
+use Rattle.vocabularies.specs.Procs.{IsProcOf}
 use Rattle.checked_tree.specs.Law.{IsBetweenEnds, IsEnd, IsFrom}
 use Rattle.proc_summary.specs.declared.stop.Flow.{Flow}
 use Rattle.proc_summary.specs.Claims.{FitsFlow, FitsIf, FlowHolds, HoldsIf, IsBetweenStates}
@@ -108,7 +109,7 @@ numbers-told true globals columns final after value long le taken last =
 
 -- ---- the ends of a procedure
 
-module _ (program : Program) (proc : ℕ) (p : Proc) (formed : IsWellFormed program) (is : slice_get program.procs proc ≡ Some p) where
+module _ (program : Program) (proc : ℕ) (p : Proc) (formed : IsWellFormed program) (is : IsProcOf program proc p) where
   fit : IsProcFit program p
   fit = proc-fit program proc p formed is
 

@@ -27,6 +27,7 @@ use Rattle.flow_graph.specs.Walks.{Stride, Walks}
 use Rattle.leaf_cases.specs.Conditions.{AreKnown, KnownCalls}
 use Rattle.leaf_cases.specs.Summaries.{AreMet, KnowsCallee}
 use Rattle.vocabularies.specs.Ends.{full_of}
+use Rattle.vocabularies.specs.Procs.{IsProcOf}
 use Rattle.checked_tree.specs.Graph.{vocabulary_at}
 use Rattle.checked_tree.specs.Law.{AreFittedCells, FitsCell, HoldsCell}
 use Rattle.proc_summary.specs.declared.stop.NodeFormula.{NodeFormula}
@@ -63,7 +64,7 @@ module _ (columns : ℕ) (cells : List (Cell Transition)) where
   check-stops [] = refl
   check-stops (check ∷ checks) = ap (λ more. check_stop columns cells check ∷ more) (check-stops checks)
 
-module _ (program : Program) (proc : ℕ) (p : Proc) (known : List (Option Transition)) (is : slice_get program.procs proc ≡ Some p) (g : Graph) (of : IsGraphOf program proc g) where
+module _ (program : Program) (proc : ℕ) (p : Proc) (known : List (Option Transition)) (is : IsProcOf program proc p) (g : Graph) (of : IsGraphOf program proc g) where
   checks-are : map check_of g.checks ≡ (own_graph p).checks
   checks-are = ap (λ (f : FlowGraph). f.checks) (plain-is program proc p known is g of)
 

@@ -31,6 +31,7 @@ use Rattle.flow_graph.specs.Walks.{EdgeRelates, Stride, Walks}
 use Rattle.leaf_cases.specs.Conditions.{AreKnown, IsActOf, KnownCalls, columns_at, columns_in}
 use Rattle.leaf_cases.specs.Edges.{known_call, leaf_of, losses_in_leaf}
 use Rattle.vocabularies.specs.Ends.{full_of}
+use Rattle.vocabularies.specs.Procs.{IsProcOf}
 use Rattle.checked_tree.specs.Graph.{leaf_at, link_at, vocabulary_at}
 use Rattle.checked_tree.specs.Graph as graphs
 use Rattle.checked_tree.specs.Law.{CellsHold, IsEnd, IsEvaluated, IsLeaf, IsRun}
@@ -167,7 +168,7 @@ pub full-columns : (program : Program) (p : Proc) → (full_of program p).column
 unfolding full_of
 full-columns program p = refl
 
-pub proc-fit : (program : Program) (proc : ℕ) (p : Proc) → IsWellFormed program → slice_get program.procs proc ≡ Some p → IsProcFit program p
+pub proc-fit : (program : Program) (proc : ℕ) (p : Proc) → IsWellFormed program → IsProcOf program proc p → IsProcFit program p
 proc-fit program proc p formed is = all_get (IsProcFit program) program.procs proc p formed.each is
 
 pub narrow : (program : Program) (p : Proc) → IsWellFormed program → IsProcFit program p → width_of program p ≤ 63
@@ -187,7 +188,7 @@ acts-are program proc g of edges same i d lt = act_of_edge program proc g edges 
 abbrev no_vocabulary : Vocabulary
 no_vocabulary = record { columns = 0; named = []; harvested = []; rule = 0; extra = [] }
 
-module _ (program : Program) (proc : ℕ) (p : Proc) (known : List (Option Transition)) (is : slice_get program.procs proc ≡ Some p) where
+module _ (program : Program) (proc : ℕ) (p : Proc) (known : List (Option Transition)) (is : IsProcOf program proc p) where
   pub graph-is : graph_of program proc ≡ own_graph p
   graph-is = ap (λ (o : Option Proc). flow_of (body_of o)) is
 
@@ -317,7 +318,7 @@ module _ (program : Program) (proc : ℕ) (p : Proc) (known : List (Option Trans
 
 -- ---- for the code: what a subject is made from
 
-module _ (program : Program) (proc : ℕ) (p : Proc) (known : List (Option Transition)) (is : slice_get program.procs proc ≡ Some p) (g : Graph) (of : IsGraphOf program proc g) where
+module _ (program : Program) (proc : ℕ) (p : Proc) (known : List (Option Transition)) (is : IsProcOf program proc p) (g : Graph) (of : IsGraphOf program proc g) where
   pub links-inside : IsGraph (own_graph p).nodes (subject_of program p known).links
   links-inside =
       let within = subst (λ n. All (λ (edge : Edge). (edge.from < n) × (edge.to < n)) g.edges) (nodes-are program proc p known is g of) of.edges in

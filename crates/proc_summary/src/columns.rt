@@ -1,7 +1,8 @@
-ghost use Rattle.std.specs.Prelude.{◌≡◌, ◌<◌, Some, length, slice_get, IfOk};
+ghost use Rattle.std.specs.Prelude.{◌≡◌, ◌<◌, length, IfOk};
 ghost use Rattle.std.specs.List.{range_with_len};
 ghost use Rattle.syntax_tree.specs.WellFormed.{IsWellFormed};
 ghost use Rattle.syntax_tree.specs.declared.program.Proc.{Proc as Procedure};
+ghost use Rattle.vocabularies.specs.Procs.{IsProcOf};
 ghost use Rattle.leaf_cases.specs.Conditions.{columns_at};
 ghost use Rattle.proc_summary.specs.Summary.{ends_of, exit_places};
 
@@ -28,7 +29,7 @@ pub(crate) fn exit_places(
 ) -> Result<Items<u32>, AllocError>
     requires formed { IsWellFormed program.now }
     requires procedure { proc < length program.now.procs }
-    ensures { (p : Procedure) → slice_get program.now.procs proc ≡ Some p
+    ensures { (p : Procedure) → IsProcOf program.now proc p
         → IfOk result (λ places. places ≡ exit_places (ends_of program.now p)) }
 {
     let mut places = first_columns(alloc, program.globals.len() as u32)?;

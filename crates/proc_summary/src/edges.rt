@@ -1,7 +1,8 @@
-ghost use Rattle.std.specs.Prelude.{◌≡◌, ◌<◌, ◌++◌, Some, length, map, replicate, slice_get, IfOk, OnOk};
+ghost use Rattle.std.specs.Prelude.{◌≡◌, ◌<◌, ◌++◌, length, map, replicate, IfOk, OnOk};
 ghost use Rattle.std.specs.List.{AllByRecursion, flat_map};
 ghost use Rattle.syntax_tree.specs.WellFormed.{IsWellFormed};
 ghost use Rattle.syntax_tree.specs.declared.program.Proc.{Proc as Procedure};
+ghost use Rattle.vocabularies.specs.Procs.{IsProcOf};
 ghost use Rattle.leaf_cases.specs.Conditions.{AreKnown};
 ghost use Rattle.proc_summary.specs.Subject.{subject_of};
 ghost use Rattle.proc_summary.specs.Parts.{IsGraphOf, edge_link, edge_leaf, losses_in_edge, AreActsOf, IsFit, ArePartsOf};
@@ -46,7 +47,7 @@ pub(crate) fn parts_of(
     requires procedure { proc < length program.now.procs }
     requires graph { IsGraphOf program.now proc graph.now }
     requires known { AreKnown program.now known.now }
-    ensures made { (p : Procedure) → slice_get program.now.procs proc ≡ Some p
+    ensures made { (p : Procedure) → IsProcOf program.now proc p
         → IfOk result (ArePartsOf (subject_of program.now p known.now)) }
     ensures fit { IfOk result (λ parts. AllByRecursion IsFit parts.leaves) }
 {

@@ -2,6 +2,6 @@
 ghost use Rattle.proc_summary.specs.Alike.{AlikeProcsAreOne};
 
 /// Procedures that are alike have one subject and the same ends, so one flow and one summary.
-pub fn law_of_alike_procedures()
+pub fn alike_procedures_are_one()
     ensures { AlikeProcsAreOne }
 {}

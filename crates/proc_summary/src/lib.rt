@@ -11,7 +11,7 @@ mod stop;
 mod stops;
 mod summary;
 
-pub use laws::law_of_alike_procedures;
+pub use laws::alike_procedures_are_one;
 pub use nodes::{cells, trees};
 pub use stop::{Flow, NodeFormula};
 pub use stops::{flow, formula_at};

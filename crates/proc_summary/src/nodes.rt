@@ -1,11 +1,12 @@
-ghost use Rattle.std.specs.Prelude.{◌≡◌, ◌<◌, Some, length, slice_get, IfOk};
+ghost use Rattle.std.specs.Prelude.{◌≡◌, ◌<◌, length, IfOk};
 ghost use Rattle.posing.specs.Logs.{loss_notes, with_notes};
 ghost use Rattle.checked_tree.specs.Grown.{AreGrown, formulas_of, result_map, trees_of};
 ghost use Rattle.syntax_tree.specs.WellFormed.{IsWellFormed};
-ghost use Rattle.posing.specs.Follows.{Follows};
+ghost use Rattle.posing.specs.Follows.{Asks};
 ghost use Rattle.leaf_cases.specs.Conditions.{AreKnown};
 ghost use Rattle.checked_tree.specs.Law.{AreFittedCells};
 ghost use Rattle.syntax_tree.specs.declared.program.Proc.{Proc as Procedure};
+ghost use Rattle.vocabularies.specs.Procs.{IsProcOf};
 ghost use Rattle.proc_summary.specs.Subject.{graph_by, own_graph, subject_of};
 ghost use Rattle.proc_summary.specs.Flow.{cells_from};
 ghost use Rattle.proc_summary.specs.Claims.{HoldsOfWalks};
@@ -37,14 +38,13 @@ pub fn cells<O: Oracle>(
     requires formed { IsWellFormed program.now }
     requires procedure { proc < length program.now.procs }
     requires known { AreKnown program.now known.now }
-    requires source { (p : Procedure) → slice_get program.now.procs proc ≡ Some p
+    requires source { (p : Procedure) → IsProcOf program.now proc p
         → source < (own_graph p).nodes }
-    ensures follows { (p : Procedure) → slice_get program.now.procs proc ≡ Some p
-        → Follows O.asking oracle.old oracle.new log.old log.new result
-        (cells_from (subject_of program.now p known.now) source) }
-    ensures fits { (p : Procedure) → slice_get program.now.procs proc ≡ Some p
+    ensures follows { (p : Procedure) → IsProcOf program.now proc p
+        → Asks O.asking oracle log result (cells_from (subject_of program.now p known.now) source) }
+    ensures fits { (p : Procedure) → IsProcOf program.now proc p
         → IfOk result (AreFittedCells (graph_by (subject_of program.now p known.now)) source) }
-    ensures holds { (p : Procedure) → slice_get program.now.procs proc ≡ Some p
+    ensures holds { (p : Procedure) → IsProcOf program.now proc p
         → IfOk result (HoldsOfWalks program.now p known.now source) }
 {
     let graph = graph_of(alloc, program, proc)?;
@@ -67,12 +67,12 @@ pub fn trees<O: Oracle>(
     requires formed { IsWellFormed program.now }
     requires procedure { proc < length program.now.procs }
     requires known { AreKnown program.now known.now }
-    requires source { (p : Procedure) → slice_get program.now.procs proc ≡ Some p
+    requires source { (p : Procedure) → IsProcOf program.now proc p
         → source < (own_graph p).nodes }
-    ensures follows { (p : Procedure) → slice_get program.now.procs proc ≡ Some p
-        → Follows O.asking oracle.old oracle.new log.old log.new (result_map formulas_of result)
+    ensures follows { (p : Procedure) → IsProcOf program.now proc p
+        → Asks O.asking oracle log (result_map formulas_of result)
         (cells_from (subject_of program.now p known.now) source) }
-    ensures grown { (p : Procedure) → slice_get program.now.procs proc ≡ Some p
+    ensures grown { (p : Procedure) → IsProcOf program.now proc p
         → IfOk result
         (λ cells. AreGrown (graph_by (subject_of program.now p known.now)) source
         (with_notes log.old (loss_notes (subject_of program.now p known.now).lost)) log.new
@@ -98,12 +98,11 @@ pub(crate) fn cells_of<O: Oracle>(
     requires graph { IsGraphOf program.now proc graph.now }
     requires known { AreKnown program.now known.now }
     requires source { source < graph.now.nodes }
-    ensures follows { (p : Procedure) → slice_get program.now.procs proc ≡ Some p
-        → Follows O.asking oracle.old oracle.new log.old log.new result
-        (cells_from (subject_of program.now p known.now) source) }
-    ensures fits { (p : Procedure) → slice_get program.now.procs proc ≡ Some p
+    ensures follows { (p : Procedure) → IsProcOf program.now proc p
+        → Asks O.asking oracle log result (cells_from (subject_of program.now p known.now) source) }
+    ensures fits { (p : Procedure) → IsProcOf program.now proc p
         → IfOk result (AreFittedCells (graph_by (subject_of program.now p known.now)) source) }
-    ensures holds { (p : Procedure) → slice_get program.now.procs proc ≡ Some p
+    ensures holds { (p : Procedure) → IsProcOf program.now proc p
         → IfOk result (HoldsOfWalks program.now p known.now source) }
 {
     let trees = trees_in(alloc, program, proc, graph, known, source, oracle, log)?;
@@ -128,19 +127,19 @@ fn trees_in<O: Oracle>(
     requires graph { IsGraphOf program.now proc graph.now }
     requires known { AreKnown program.now known.now }
     requires source { source < graph.now.nodes }
-    ensures follows { (p : Procedure) → slice_get program.now.procs proc ≡ Some p
-        → Follows O.asking oracle.old oracle.new log.old log.new (result_map formulas_of result)
+    ensures follows { (p : Procedure) → IsProcOf program.now proc p
+        → Asks O.asking oracle log (result_map formulas_of result)
         (cells_from (subject_of program.now p known.now) source) }
-    ensures grown { (p : Procedure) → slice_get program.now.procs proc ≡ Some p
+    ensures grown { (p : Procedure) → IsProcOf program.now proc p
         → IfOk result
         (λ cells. AreGrown (graph_by (subject_of program.now p known.now)) source
         (with_notes log.old (loss_notes (subject_of program.now p known.now).lost)) log.new
         (trees_of cells)) }
-    ensures fits { (p : Procedure) → slice_get program.now.procs proc ≡ Some p
+    ensures fits { (p : Procedure) → IsProcOf program.now proc p
         → IfOk result
         (λ cells. AreFittedCells (graph_by (subject_of program.now p known.now)) source
         (formulas_of cells)) }
-    ensures holds { (p : Procedure) → slice_get program.now.procs proc ≡ Some p
+    ensures holds { (p : Procedure) → IsProcOf program.now proc p
         → IfOk result (λ cells. HoldsOfWalks program.now p known.now source (formulas_of cells)) }
 {
     let parts = parts_of(alloc, program, proc, graph, known)?;

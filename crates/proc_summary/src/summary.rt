@@ -1,10 +1,11 @@
-ghost use Rattle.std.specs.Prelude.{◌≡◌, ◌<◌, ◌++◌, Some, length, slice_get, IfOk, OnOk};
+ghost use Rattle.std.specs.Prelude.{◌≡◌, ◌<◌, ◌++◌, Some, length, IfOk, OnOk};
 ghost use Rattle.syntax_tree.specs.WellFormed.{IsWellFormed, width_of};
 ghost use Rattle.vocabularies.specs.Ends.{entry_width};
+ghost use Rattle.vocabularies.specs.Procs.{IsProcOf};
 ghost use Rattle.syntax_tree.specs.declared.program.Proc.{Proc as Procedure};
 ghost use Rattle.transition_formula.specs.Hiding.{losses_in_hiding};
 ghost use Rattle.transition_formula.specs.Meaning.{Covers};
-ghost use Rattle.posing.specs.Follows.{Follows};
+ghost use Rattle.posing.specs.Follows.{Asks};
 ghost use Rattle.leaf_cases.specs.Conditions.{IsKnown};
 ghost use Rattle.leaf_cases.specs.Summaries.{SummaryIsMet};
 ghost use Rattle.proc_summary.specs.Summary.{ends_of, exit_formula, exit_places, summary_from, projection_of};
@@ -35,12 +36,12 @@ pub fn project<O: Oracle>(
 ) -> Result<Formula, WorkError>
     requires formed { IsWellFormed program.now }
     requires procedure { proc < length program.now.procs }
-    requires flow { (p : Procedure) → slice_get program.now.procs proc ≡ Some p
+    requires flow { (p : Procedure) → IsProcOf program.now proc p
         → FitsFlow program.now p flow.now }
-    ensures follows { (p : Procedure) → slice_get program.now.procs proc ≡ Some p
-        → Follows O.asking oracle.old oracle.new log.old log.new result
+    ensures follows { (p : Procedure) → IsProcOf program.now proc p
+        → Asks O.asking oracle log result
         (summary_from (ends_of program.now p) flow.now.exit.formula) }
-    ensures known { (p : Procedure) → slice_get program.now.procs proc ≡ Some p
+    ensures known { (p : Procedure) → IsProcOf program.now proc p
         → IfOk result (IsKnown program.now p) }
     ensures met { FlowHolds program.now proc flow.now
         → IfOk result (SummaryIsMet program.now proc) }
@@ -60,14 +61,13 @@ pub fn exit_summary<O: Oracle>(
 ) -> Result<Formula, WorkError>
     requires formed { IsWellFormed program.now }
     requires procedure { proc < length program.now.procs }
-    requires exit { (p : Procedure) → slice_get program.now.procs proc ≡ Some p
+    requires exit { (p : Procedure) → IsProcOf program.now proc p
         → FitsIf (width_of program.now p) exit.now }
-    ensures follows { (p : Procedure) → slice_get program.now.procs proc ≡ Some p
-        → Follows O.asking oracle.old oracle.new log.old log.new result
-        (summary_from (ends_of program.now p) exit.now) }
-    ensures known { (p : Procedure) → slice_get program.now.procs proc ≡ Some p
+    ensures follows { (p : Procedure) → IsProcOf program.now proc p
+        → Asks O.asking oracle log result (summary_from (ends_of program.now p) exit.now) }
+    ensures known { (p : Procedure) → IsProcOf program.now proc p
         → IfOk result (IsKnown program.now p) }
-    ensures covers { (p : Procedure) → slice_get program.now.procs proc ≡ Some p
+    ensures covers { (p : Procedure) → IsProcOf program.now proc p
         → IfOk result
         (λ f. Covers f
         (projection_of (entry_width program.now p) (exit_places (ends_of program.now p))

@@ -1,6 +1,6 @@
 ghost use Rattle.std.specs.Prelude.{◌≡◌, [], ◌∷◌, ◌++◌, IfOk, map};
 ghost use Rattle.farkas_check.specs.declared.question.Question.TheVariants.{Infeasible};
-ghost use Rattle.posing.specs.Follows.{Follows};
+ghost use Rattle.posing.specs.Follows.{Asks};
 ghost use Rattle.question_examples.specs.Calls.{exclusion, with_exclusion, exclusions, first_excluded, limits_of, is_yes};
 
 use farkas_check::{Answer, Oracle, Question};
@@ -17,7 +17,7 @@ pub fn exclusion<O: Oracle>(
     oracle: &mut O,
     log: &mut Log,
 ) -> Result<bool, WorkError>
-    ensures { Follows O.asking oracle.old oracle.new log.old log.new result (exclusion rows.now) }
+    ensures { Asks O.asking oracle log result (exclusion rows.now) }
 {
     let question = question_of(rows)?;
     let answer = ask(alloc, &question, oracle, log)?;
@@ -55,7 +55,7 @@ pub fn exclusions<O: Oracle>(
     oracle: &mut O,
     log: &mut Log,
 ) -> Result<Items<bool>, WorkError>
-    ensures { Follows O.asking oracle.old oracle.new log.old log.new result (exclusions lists.now) }
+    ensures { Asks O.asking oracle log result (exclusions lists.now) }
 {
     let mut made = Items::new(alloc);
     for rows in lists {
@@ -72,8 +72,7 @@ fn with_exclusion<O: Oracle>(
     oracle: &mut O,
     log: &mut Log,
 ) -> Result<Items<bool>, WorkError>
-    ensures { Follows O.asking oracle.old oracle.new log.old log.new result
-        (with_exclusion made rows.now) }
+    ensures { Asks O.asking oracle log result (with_exclusion made rows.now) }
 {
     let excluded = exclusion(alloc, rows, oracle, log)?;
     Ok(with_last(made, excluded)?)
@@ -94,8 +93,7 @@ pub fn first_excluded<O: Oracle>(
     oracle: &mut O,
     log: &mut Log,
 ) -> Result<Option<usize>, WorkError>
-    ensures { Follows O.asking oracle.old oracle.new log.old log.new result
-        (first_excluded 0 lists.now) }
+    ensures { Asks O.asking oracle log result (first_excluded 0 lists.now) }
 {
     for (place, rows) in lists.iter().enumerate() {
         if exclusion(alloc, rows, oracle, log)? {

@@ -24,7 +24,7 @@ use Rattle.polyhedra.proofs.RelationTerms.{IsTrueIn, IsTrueRelation}
 use Rattle.items.proofs.Each.{each-any}
 use Rattle.recurrence.specs.declared.terms.Recurrence.{Recurrence}
 use Rattle.recurrence.specs.declared.terms.Term.{Term}
-use Rattle.recurrence.specs.Products.{is_known, turned, sequence_of, known_products, sequences}
+use Rattle.recurrence.specs.Products.{is_known, columns_after_turn, sequence_of, known_products, sequences}
 use Rattle.recurrence.specs.Strata.{steady, recurrence_of, term_of}
 use Rattle.linear_terms.proofs.Worth.{IsWorth, IsWorth-Ok, IsWorth-same, IsWorth-whole, IsWorth-sum, column_of-value, linear-value, dot-minus, dot-same, AreWorth, IsWorth-combination}
 use Rattle.recurrence.proofs.ProductGrowth.{AreNext, product_ladder, product-grows, product-start, product-first, product-second, product-third, product-fourth}
@@ -156,7 +156,7 @@ module _ (ms : List (List Col)) (body : Transition) (steps : ℕ) (states : ℕ 
   -- ---- products of known columns
 
   module _ (known : List (Option Polynomial)) (are : AreNext body steps states run known) (d : ℕ) where
-    sequence-along : (m : List Col) → (ms ≡ [] → ⊥) → (has : IsTrue (list_all (is_known known) m)) → IsAlong d (sequence_of (turned known) m) (product_ladder body steps states run known are m has)
+    sequence-along : (m : List Col) → (ms ≡ [] → ⊥) → (has : IsTrue (list_all (is_known known) m)) → IsAlong d (sequence_of (columns_after_turn known) m) (product_ladder body steps states run known are m has)
     sequence-along m some has = record {
       grows = product-grows body steps states run known are m has;
       constant = λ none. absurd (some none);
@@ -167,7 +167,7 @@ module _ (ms : List (List Col)) (body : Transition) (steps : ℕ) (states : ℕ 
       fourth = λ i within at reads. product-fourth body steps states run known are m has i at reads;
     }
 
-    each-sequence : (ns : List (List Col)) → (ms ≡ [] → ⊥) → AllByRecursion (λ m. IsTrue (list_all (is_known known) m)) ns → (ls : List Ladder) × AreAlong d (map (sequence_of (turned known)) ns) ls
+    each-sequence : (ns : List (List Col)) → (ms ≡ [] → ⊥) → AllByRecursion (λ m. IsTrue (list_all (is_known known) m)) ns → (ls : List Ladder) × AreAlong d (map (sequence_of (columns_after_turn known)) ns) ls
     each-sequence [] some h = ([], tt)
     each-sequence (m ∷ ns) some h = let rest = each-sequence ns some h.1 in (product_ladder body steps states run known are m h.0 ∷ rest.0, (sequence-along m some h.0, rest.1))
 

@@ -23,7 +23,7 @@ use Rattle.transition_formula.specs.Rows.{tidied_rows}
 use Rattle.transition_formula.specs.Transition.{Transition}
 use Rattle.transition_formula.proofs.Loops.{or_left, or_right}
 use Rattle.transition_formula.proofs.Numbers.{count_below-keeps}
-use Rattle.transition_formula.proofs.Tidied.{tidied-keeps}
+use Rattle.transition_formula.proofs.TidiedRows.{tidied-keeps}
 use Rattle.posing.specs.Posing.{Done, ◌>>=◌, Always}
 use Rattle.posing.proofs.Paths.{always_any, always_bind, always_each}
 use Rattle.polyhedra.specs.Finish.{cut, cut_case, finished_left}

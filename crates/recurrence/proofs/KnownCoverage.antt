@@ -12,7 +12,7 @@ use Rattle.linear_terms.specs.Replacement.{IsBelow}
 use Rattle.linear_terms.proofs.Columns.{EachColumn}
 use Rattle.polyhedra.specs.Bounds.{IsCovered}
 use Rattle.polyhedra.proofs.Lists.{filter-passes}
-use Rattle.recurrence.specs.Products.{is_known, turned, growth, grown, known_products}
+use Rattle.recurrence.specs.Products.{is_known, columns_after_turn, growth, grown, known_products}
 use Rattle.recurrence.specs.Words.{HasKnown, IsClosed, AreCovered, IsCoveredIfMade}
 use Rattle.recurrence.proofs.SolvedColumns.{known-low, turned-each}
 use Rattle.recurrence.proofs.Within.{IsWithin, within-Ok, growth-within, next-within}
@@ -27,17 +27,17 @@ known-below : (known : List (Option Polynomial)) (c : Col) → IsTrue (is_known 
 known-below known (At v) h = known-low known v h
 known-below known (Aux n) h = cc
 
-long : (known : List (Option Polynomial)) → length (turned known) ≡ length known
+long : (known : List (Option Polynomial)) → length (columns_after_turn known) ≡ length known
 long [] = refl
 long (o ∷ known) = λ i. suc (long known i)
 
-pub turned-covered : (known : List (Option Polynomial)) → IsClosed known → AreCovered (turned known)
+pub turned-covered : (known : List (Option Polynomial)) → IsClosed known → AreCovered (columns_after_turn known)
 turned-covered known closed =
-    subst (λ n. All (IsCovered n) (turned known)) (sym (long known))
-    (All-from_recursion (IsCovered (length known)) (turned known) (turned-each known (IsCovered (length known)) (covered (length known) (constant_of (pos 0)) tt) (λ v p e. covered (length known) p
+    subst (λ n. All (IsCovered n) (columns_after_turn known)) (sym (long known))
+    (All-from_recursion (IsCovered (length known)) (columns_after_turn known) (turned-each known (IsCovered (length known)) (covered (length known) (constant_of (pos 0)) tt) (λ v p e. covered (length known) p
     (each-more (λ t. AllByRecursion (λ c. IsTrue (is_known known c)) t.0) (λ t. AllByRecursion (IsBelow (length known) 0) t.0) (λ t k. each-more (λ c. IsTrue (is_known known c)) (IsBelow (length known) 0) (known-below known) t.0 k) p.terms (closed (At v) p e)))))
 
-pub products-covered : (known : List (Option Polynomial)) (ms : List (List Col)) → All (λ m. All (IsBelow (length (turned known)) 0) m) (known_products known ms)
+pub products-covered : (known : List (Option Polynomial)) (ms : List (List Col)) → All (λ m. All (IsBelow (length (columns_after_turn known)) 0) m) (known_products known ms)
 products-covered known ms =
     subst (λ n. All (λ m. All (IsBelow n 0) m) (known_products known ms)) (sym (long known))
     (All-from_recursion (λ m. All (IsBelow (length known) 0) m) (known_products known ms)

@@ -18,7 +18,7 @@ use Rattle.linear_terms.specs.Polynomial.{Polynomial, column_of}
 use Rattle.linear_terms.specs.TermError.{times}
 use Rattle.linear_terms.proofs.Columns.{EachColumn}
 use Rattle.transition_formula.specs.Transition.{Transition, every_column, every_column_of, is_below, fits}
-use Rattle.transition_formula.proofs.Covered.{both_true, test_from_columns}
+use Rattle.transition_formula.proofs.ColumnTests.{both_true, test_from_columns}
 use Rattle.transition_formula.proofs.Fitting.{is_below-more, below-true, true-below}
 use Rattle.posing.specs.Posing.{Done, ◌>>=◌ as ◌>>>◌, each, Always}
 use Rattle.posing.proofs.Paths.{always_bind, always_any}
@@ -37,7 +37,7 @@ use Rattle.polyhedra.proofs.DirectionShapes.{each-distinct}
 use Rattle.recurrence.specs.declared.terms.Recurrence.{Recurrence}
 use Rattle.recurrence.specs.declared.terms.Term.{Term}
 use Rattle.recurrence.specs.declared.terms.Strata.{Strata}
-use Rattle.recurrence.specs.Products.{is_known, turned, sequence_of, known_products, sequences, unchanged, with_terms, products}
+use Rattle.recurrence.specs.Products.{is_known, columns_after_turn, sequence_of, known_products, sequences, unmodified_columns, with_terms, products}
 use Rattle.recurrence.specs.Words.{IsClosed}
 use Rattle.recurrence.specs.Strata.{steady, term_of, has_terms, stratum, steady_columns, over, stratum_if, is_short, has_grown, strata, all_terms}
 use Rattle.recurrence.specs.Progressions.{Progression, progressions, excess, progression_row, bounded_progression}
@@ -185,14 +185,14 @@ module _ (body : Transition) where
     -- known columns are entry columns, and so is what is known of them
     sequences-within : (known : List (Option Polynomial)) → IsClosed known → length known ≤ body.to → (ms : List (List Col)) → AllByRecursion (IsRecurrenceWithin Below) (sequences known ms)
     sequences-within known closed few ms =
-        each-map (λ m. list_all (is_known known) m ≡ true) (IsRecurrenceWithin Below) (sequence_of (turned known))
-        (λ m k. sequence-within Below (turned known) next m (each_from_test (is_known known) Below known-below m k)) (known_products known ms) (filter-passes (list_all (is_known known)) ms)
+        each-map (λ m. list_all (is_known known) m ≡ true) (IsRecurrenceWithin Below) (sequence_of (columns_after_turn known))
+        (λ m k. sequence-within Below (columns_after_turn known) next m (each_from_test (is_known known) Below known-below m k)) (known_products known ms) (filter-passes (list_all (is_known known)) ms)
       where
         known-below : (c : Col) → IsTrue (is_known known c) → Below c
         known-below (At v) h = column-below v (let low = known-low known v h in omega arith)
         known-below (Aux n) h = cc
 
-        next : AllByRecursion (λ (p : Polynomial). EachColumn Below p.terms) (turned known)
+        next : AllByRecursion (λ (p : Polynomial). EachColumn Below p.terms) (columns_after_turn known)
         next = turned-each known (λ p. EachColumn Below p.terms) tt (λ v p e.
             each-more (λ t. AllByRecursion (λ c. IsTrue (is_known known c)) t.0) (λ t. AllByRecursion Below t.0) (λ t k. each-more (λ c. IsTrue (is_known known c)) Below known-below t.0 k) p.terms (closed (At v) p e))
 
@@ -232,9 +232,9 @@ module _ (body : Transition) where
         let closed0 = unchanged-closed body ms in
         let few0 = unchanged-long body ms in
         always_bind OfSome AreWithin (stratum body []) _ (stratum-within [] tt) (λ v1 h1.
-        let known1 = with_terms body (unchanged body ms) v1 in
-        let closed1 = terms-closed body (unchanged body ms) v1 closed0 in
-        let few1 = terms-long body (unchanged body ms) v1 body.to few0 in
+        let known1 = with_terms body (unmodified_columns body ms) v1 in
+        let closed1 = terms-closed body (unmodified_columns body ms) v1 closed0 in
+        let few1 = terms-long body (unmodified_columns body ms) v1 body.to few0 in
         always_bind OfSome AreWithin (stratum_if (is_short (length (modified_variables true body)) v1) body (over body ms known1 v1)) _
         (stratum_if-within (is_short (length (modified_variables true body)) v1) (over body ms known1 v1) (over-within known1 closed1 few1 ms v1 h1)) (λ v2 h2.
         let known2 = with_terms body known1 v2 in

@@ -22,14 +22,14 @@ use Rattle.transition_formula.specs.Meaning.{numbers}
 use Rattle.transition_formula.specs.Transition.{Transition, every_column}
 use Rattle.polyhedra.specs.Changes.{is_modified, moving}
 use Rattle.polyhedra.proofs.Turns.{number_in, Reads, reads-numbers, unmodified-unmoved, IsRunOf}
-use Rattle.recurrence.specs.Products.{known_of, is_known, unchanged, with_term, with_change, with_solved, sole, is_open, turned, growth, grown, sequence_of}
+use Rattle.recurrence.specs.Products.{knowledge_of, is_known, unmodified_columns, with_term, with_change, with_solved, sole, is_open, columns_after_turn, growth, grown, sequence_of}
 use Rattle.recurrence.specs.Words.{HasKnown, IsClosed}
 use Rattle.recurrence.proofs.SolvedColumns.{change-keeps, closed-next, set-known, unchanged-closed, unchanged-known, turned-known}
 
 module _ (known : List (Option Polynomial)) (closed : IsClosed known) where
   -- the numbers of columns after a turn
   after_turn : Valuation → Valuation
-  after_turn at c = value_of at (put_in (turned known) [] c)
+  after_turn at c = value_of at (put_in (columns_after_turn known) [] c)
 
   -- known columns have the same numbers
   abbrev pub Agree : Valuation → Valuation → Type 0
@@ -52,9 +52,9 @@ module _ (known : List (Option Polynomial)) (closed : IsClosed known) where
 
   turn-agrees : (at bt : Valuation) → Agree at bt → Agree (after_turn at) (after_turn bt)
   unfolding after_turn
-  turn-agrees at bt same c h = go (known_of known c) refl h
+  turn-agrees at bt same c h = go (knowledge_of known c) refl h
     where
-      go : (o : Option Polynomial) → known_of known c ≡ o → IsTrue (is_some o) → value_of at (put_in (turned known) [] c) ≡ value_of bt (put_in (turned known) [] c)
+      go : (o : Option Polynomial) → knowledge_of known c ≡ o → IsTrue (is_some o) → value_of at (put_in (columns_after_turn known) [] c) ≡ value_of bt (put_in (columns_after_turn known) [] c)
       go None e k = cc
       go (Some p) e k = let here = turned-known known c p e in ap (value_of at) here ∙ known-respects p (closed c p e) at bt same ∙ sym (ap (value_of bt) here)
 
@@ -69,18 +69,18 @@ module _ (known : List (Option Polynomial)) (closed : IsClosed known) where
   changed-respects (suc m) f h at bt same = λ i. changed-respects m f h (after_turn at) (after_turn bt) (turn-agrees at bt same) i -ℤ changed-respects m f h at bt same i
 
   -- of a polynomial this is what its growth is worth
-  growth-worth : (p : Polynomial) (at : Valuation) → IsWorth at (growth (turned known) p) (value_of (after_turn at) p -ℤ value_of at p)
+  growth-worth : (p : Polynomial) (at : Valuation) → IsWorth at (growth (columns_after_turn known) p) (value_of (after_turn at) p -ℤ value_of at p)
   unfolding after_turn
-  growth-worth p at = IsWorth-difference (record { as_made = λ q e. substituted-value at (put_in (turned known) []) p q e }) (IsWorth-Ok at p)
+  growth-worth p at = IsWorth-difference (record { as_made = λ q e. substituted-value at (put_in (columns_after_turn known) []) p q e }) (IsWorth-Ok at p)
 
   -- everywhere
   abbrev pub IsWorthAll : Made → (Valuation → ℤ) → Type 0
   IsWorthAll made f = (at : Valuation) → IsWorth at made (f at)
 
-  next-worth : (made : Made) (m : ℕ) (f : Valuation → ℤ) → IsWorthAll made (changed m f) → IsWorthAll (grown (turned known) made) (changed (suc m) f)
+  next-worth : (made : Made) (m : ℕ) (f : Valuation → ℤ) → IsWorthAll made (changed m f) → IsWorthAll (grown (columns_after_turn known) made) (changed (suc m) f)
   unfolding changed
   next-worth made m f worth at = record {
-    as_made = λ q e. on_ok made (growth (turned known)) q e (λ p g h.
+    as_made = λ q e. on_ok made (growth (columns_after_turn known)) q e (λ p g h.
         (growth-worth p at).as_made q h ∙ (λ i. (worth (after_turn at)).as_made p g i -ℤ (worth at).as_made p g i));
   }
 
@@ -88,18 +88,18 @@ module _ (known : List (Option Polynomial)) (closed : IsClosed known) where
     number : Valuation → ℤ
     number at = value_of at (mono_of m)
 
-    first-worth : IsWorthAll (growth (turned known) (mono_of m)) (changed 1 number)
+    first-worth : IsWorthAll (growth (columns_after_turn known) (mono_of m)) (changed 1 number)
     unfolding changed number
     first-worth at = growth-worth (mono_of m) at
 
-    second-worth : IsWorthAll (grown (turned known) (growth (turned known) (mono_of m))) (changed 2 number)
-    second-worth = next-worth (growth (turned known) (mono_of m)) 1 number first-worth
+    second-worth : IsWorthAll (grown (columns_after_turn known) (growth (columns_after_turn known) (mono_of m))) (changed 2 number)
+    second-worth = next-worth (growth (columns_after_turn known) (mono_of m)) 1 number first-worth
 
-    third-worth : IsWorthAll (grown (turned known) (grown (turned known) (growth (turned known) (mono_of m)))) (changed 3 number)
-    third-worth = next-worth (grown (turned known) (growth (turned known) (mono_of m))) 2 number second-worth
+    third-worth : IsWorthAll (grown (columns_after_turn known) (grown (columns_after_turn known) (growth (columns_after_turn known) (mono_of m)))) (changed 3 number)
+    third-worth = next-worth (grown (columns_after_turn known) (growth (columns_after_turn known) (mono_of m))) 2 number second-worth
 
-    fourth-worth : IsWorthAll (grown (turned known) (grown (turned known) (grown (turned known) (growth (turned known) (mono_of m))))) (changed 4 number)
-    fourth-worth = next-worth (grown (turned known) (grown (turned known) (growth (turned known) (mono_of m)))) 3 number third-worth
+    fourth-worth : IsWorthAll (grown (columns_after_turn known) (grown (columns_after_turn known) (grown (columns_after_turn known) (growth (columns_after_turn known) (mono_of m))))) (changed 4 number)
+    fourth-worth = next-worth (grown (columns_after_turn known) (grown (columns_after_turn known) (growth (columns_after_turn known) (mono_of m)))) 3 number third-worth
 
 -- ---- along a run
 
@@ -107,7 +107,7 @@ module _ (body : Transition) (steps : ℕ) (states : ℕ → List ℤ) (run : Is
   -- what is known of a column is its number after the turn
   pub record AreNext (known : List (Option Polynomial)) : Type 0 where
     pub closed : IsClosed known
-    pub next : (v : ℕ) (p : Polynomial) → known_of known (At v) ≡ Some p → (i : ℕ) → i < steps → (at : Valuation) → Reads at (states i) → value_of at p ≡ number_in (states (i + 1)) v
+    pub next : (v : ℕ) (p : Polynomial) → knowledge_of known (At v) ≡ Some p → (i : ℕ) → i < steps → (at : Valuation) → Reads at (states i) → value_of at p ≡ number_in (states (i + 1)) v
 
   module _ (known : List (Option Polynomial)) (are : AreNext known) (m : List Col) (has : IsTrue (list_all (is_known known) m)) where
     here : ℕ → Valuation
@@ -130,9 +130,9 @@ module _ (body : Transition) (steps : ℕ) (states : ℕ → List ℤ) (run : Is
     turn-leads : (i : ℕ) → i < steps → Agree known are.closed (here (i + 1)) (after_turn known are.closed (here i))
     unfolding here after_turn
     turn-leads i within (Aux n) h = cc
-    turn-leads i within (At v) h = go (known_of known (At v)) refl h
+    turn-leads i within (At v) h = go (knowledge_of known (At v)) refl h
       where
-        go : (o : Option Polynomial) → known_of known (At v) ≡ o → IsTrue (is_some o) → number_in (states (i + 1)) v ≡ value_of (numbers (states i) (λ n. pos 0)) (put_in (turned known) [] (At v))
+        go : (o : Option Polynomial) → knowledge_of known (At v) ≡ o → IsTrue (is_some o) → number_in (states (i + 1)) v ≡ value_of (numbers (states i) (λ n. pos 0)) (put_in (columns_after_turn known) [] (At v))
         go None e k = cc
         go (Some p) e k = sym (ap (value_of (numbers (states i) (λ n. pos 0))) (turned-known known (At v) p e) ∙ are.next v p e i within (numbers (states i) (λ n. pos 0)) (reads-numbers (states i) (λ n. pos 0)))
 
@@ -148,17 +148,17 @@ module _ (body : Transition) (steps : ℕ) (states : ℕ → List ℤ) (run : Is
     unfolding product_ladder
     same-worth l i made worth at reads = IsWorth-same (respects l at (here i) (reading-agrees i at reads)) (worth at)
 
-    pub product-first : (i : ℕ) (at : Valuation) → Reads at (states i) → IsWorth at (sequence_of (turned known) m).first (product_ladder 1 i)
-    product-first i = same-worth 1 i (growth (turned known) (mono_of m)) (first-worth known are.closed m)
+    pub product-first : (i : ℕ) (at : Valuation) → Reads at (states i) → IsWorth at (sequence_of (columns_after_turn known) m).first (product_ladder 1 i)
+    product-first i = same-worth 1 i (growth (columns_after_turn known) (mono_of m)) (first-worth known are.closed m)
 
-    pub product-second : (i : ℕ) (at : Valuation) → Reads at (states i) → IsWorth at (sequence_of (turned known) m).second (product_ladder 2 i)
-    product-second i = same-worth 2 i (sequence_of (turned known) m).second (second-worth known are.closed m)
+    pub product-second : (i : ℕ) (at : Valuation) → Reads at (states i) → IsWorth at (sequence_of (columns_after_turn known) m).second (product_ladder 2 i)
+    product-second i = same-worth 2 i (sequence_of (columns_after_turn known) m).second (second-worth known are.closed m)
 
-    pub product-third : (i : ℕ) (at : Valuation) → Reads at (states i) → IsWorth at (sequence_of (turned known) m).third (product_ladder 3 i)
-    product-third i = same-worth 3 i (sequence_of (turned known) m).third (third-worth known are.closed m)
+    pub product-third : (i : ℕ) (at : Valuation) → Reads at (states i) → IsWorth at (sequence_of (columns_after_turn known) m).third (product_ladder 3 i)
+    product-third i = same-worth 3 i (sequence_of (columns_after_turn known) m).third (third-worth known are.closed m)
 
-    pub product-fourth : (i : ℕ) (at : Valuation) → Reads at (states i) → IsWorth at (sequence_of (turned known) m).fourth (product_ladder 4 i)
-    product-fourth i = same-worth 4 i (sequence_of (turned known) m).fourth (fourth-worth known are.closed m)
+    pub product-fourth : (i : ℕ) (at : Valuation) → Reads at (states i) → IsWorth at (sequence_of (columns_after_turn known) m).fourth (product_ladder 4 i)
+    product-fourth i = same-worth 4 i (sequence_of (columns_after_turn known) m).fourth (fourth-worth known are.closed m)
 
   -- ---- which columns are known
 
@@ -168,7 +168,7 @@ module _ (body : Transition) (steps : ℕ) (states : ℕ → List ℤ) (run : Is
       equal : (x y : ℤ) → x -ℤ y ≡ pos 0 → y ≡ x
       equal x y e = omega (arith, ints)
 
-  pub unchanged-next : (ms : List (List Col)) → AreNext (unchanged body ms)
+  pub unchanged-next : (ms : List (List Col)) → AreNext (unmodified_columns body ms)
   unchanged-next ms = record {
     closed = unchanged-closed body ms;
     next = λ v p e i within at reads.
@@ -191,7 +191,7 @@ module _ (body : Transition) (steps : ℕ) (states : ℕ → List ℤ) (run : Is
       together x y = omega (arith, ints)
 
       go : (w : ℕ) (p : Polynomial) (i : ℕ) → i < steps → (at : Valuation) → Reads at (states i) → (change next : Polynomial) → made ≡ Ok change → column (At v) ⊞ Ok change ≡ Ok next
-          → ((v ≡ w) × (next ≡ p)) ⊎ (known_of known (At w) ≡ Some p) → value_of at p ≡ number_in (states (i + 1)) w
+          → ((v ≡ w) × (next ≡ p)) ⊎ (knowledge_of known (At w) ≡ Some p) → value_of at p ≡ number_in (states (i + 1)) w
       go w p i within at reads change next e f (inl same) =
           sym (ap (value_of at) same.1)
           ∙ (IsWorth-sum (IsWorth-same (reads.each v) (IsWorth-column at (At v))) (IsWorth-same ((is.each i within at reads).as_made change e) (IsWorth-Ok at change))).as_made next f

@@ -16,8 +16,8 @@ use Rattle.polyhedra.specs.Changes.{is_modified, is_exact, modified_variables, m
 use Rattle.polyhedra.proofs.Lists.{each-filter, filter-passes, unfound, same_number}
 use Rattle.recurrence.specs.Star.{after_from, after}
 use Rattle.recurrence.specs.Strata.{steady_columns}
-use Rattle.recurrence.specs.Products.{unchanged}
-use Rattle.recurrence.specs.Words.{Rise, Ascend, is_among, unchanged_by}
+use Rattle.recurrence.specs.Products.{unmodified_columns}
+use Rattle.recurrence.specs.Words.{Rise, Ascend, is_among, unmodified_columns_by}
 
 -- ---- numbers
 
@@ -158,7 +158,7 @@ maps-alike : (f g : ℕ → Option Polynomial) (vs : List ℕ) → AllByRecursio
 maps-alike f g [] h = refl
 maps-alike f g (v ∷ vs) h = λ i. h.0 i ∷ maps-alike f g vs h.1 i
 
-pub unchanged-same : (body : Transition) (ms : List (List Col)) → unchanged_by (modified_variables true body) body.to ms ≡ unchanged body ms
+pub unchanged-same : (body : Transition) (ms : List (List Col)) → unmodified_columns_by (modified_variables true body) body.to ms ≡ unmodified_columns body ms
 unchanged-same body [] = refl
 unchanged-same body (m ∷ ms) =
     maps-alike (λ v. if is_among (modified_variables true body) v then None else Some (column_of (At v))) (λ v. if is_modified true body.cases v then None else Some (column_of (At v))) (range_with_len 0 body.to)

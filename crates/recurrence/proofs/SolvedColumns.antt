@@ -19,10 +19,10 @@ use Rattle.linear_terms.specs.Replacement.{put_in}
 use Rattle.linear_terms.proofs.Columns.{EachColumn}
 use Rattle.linear_terms.proofs.Values.{int_eq-zero}
 use Rattle.transition_formula.specs.Transition.{Transition, every_column}
-use Rattle.transition_formula.proofs.Covered.{both, columns_from_test}
+use Rattle.transition_formula.proofs.ColumnTests.{both, columns_from_test}
 use Rattle.polyhedra.specs.Changes.{is_modified, moving}
 use Rattle.recurrence.specs.declared.terms.Term.{Term}
-use Rattle.recurrence.specs.Products.{known_of, is_known, unchanged, sole, is_open, with_next, with_change, with_solved, with_term, with_terms, turned}
+use Rattle.recurrence.specs.Products.{knowledge_of, is_known, unmodified_columns, sole, is_open, with_next, with_change, with_solved, with_term, with_terms, columns_after_turn}
 use Rattle.recurrence.specs.Words.{HasKnown, IsClosed}
 use Rattle.recurrence.proofs.Within.{within-Ok, within-column, within-sum}
 
@@ -40,19 +40,19 @@ set-get (z ∷ xs) (suc i) (suc j) x y e = go (set-get xs i j x y e)
     go (inr other) = inr other
 
 -- a known element is there itself
-known-there : (known : List (Option Polynomial)) (v : ℕ) (p : Polynomial) → known_of known (At v) ≡ Some p → slice_get known v ≡ Some (Some p)
+known-there : (known : List (Option Polynomial)) (v : ℕ) (p : Polynomial) → knowledge_of known (At v) ≡ Some p → slice_get known v ≡ Some (Some p)
 known-there [] v p e = cc
 known-there (o ∷ known) zero p e = ap (λ q. Some q) e
 known-there (o ∷ known) (suc v) p e = known-there known v p e
 
-there-known : (known : List (Option Polynomial)) (v : ℕ) (p : Polynomial) → slice_get known v ≡ Some (Some p) → known_of known (At v) ≡ Some p
+there-known : (known : List (Option Polynomial)) (v : ℕ) (p : Polynomial) → slice_get known v ≡ Some (Some p) → knowledge_of known (At v) ≡ Some p
 there-known known v p e = ap (λ o. unwrap_or o None) e
 
 -- what is known behind one more column
-pub set-known : (known : List (Option Polynomial)) (v : ℕ) (p : Polynomial) (w : ℕ) (q : Polynomial) → known_of (slice_set known v (Some p)) (At w) ≡ Some q → ((v ≡ w) × (p ≡ q)) ⊎ (known_of known (At w) ≡ Some q)
+pub set-known : (known : List (Option Polynomial)) (v : ℕ) (p : Polynomial) (w : ℕ) (q : Polynomial) → knowledge_of (slice_set known v (Some p)) (At w) ≡ Some q → ((v ≡ w) × (p ≡ q)) ⊎ (knowledge_of known (At w) ≡ Some q)
 set-known known v p w q e = go (set-get known v w (Some p) (Some q) (known-there (slice_set known v (Some p)) w q e))
   where
-    go : ((v ≡ w) × (Some p ≡ Some q)) ⊎ (slice_get known w ≡ Some (Some q)) → ((v ≡ w) × (p ≡ q)) ⊎ (known_of known (At w) ≡ Some q)
+    go : ((v ≡ w) × (Some p ≡ Some q)) ⊎ (slice_get known w ≡ Some (Some q)) → ((v ≡ w) × (p ≡ q)) ⊎ (knowledge_of known (At w) ≡ Some q)
     go (inl same) = inl (same.0, ap (λ o. unwrap_or o p) same.1)
     go (inr other) = inr (there-known known w q other)
 
@@ -101,17 +101,17 @@ closed-next known v change next closed opened all e = λ c p f. go c p f
         (within-column (λ c. IsTrue (is_known (slice_set known v (Some next)) c)) (At v) (set-itself known v next opened))
         (within-Ok (λ c. IsTrue (is_known (slice_set known v (Some next)) c)) change (more change (columns_from_test (is_known known) change all)))).as_made next e
 
-    go : (c : Col) (p : Polynomial) → known_of (slice_set known v (Some next)) c ≡ Some p → HasKnown (slice_set known v (Some next)) p
+    go : (c : Col) (p : Polynomial) → knowledge_of (slice_set known v (Some next)) c ≡ Some p → HasKnown (slice_set known v (Some next)) p
     go (Aux n) p f = cc
     go (At w) p f = found (set-known known v next w p f)
       where
-        found : ((v ≡ w) × (next ≡ p)) ⊎ (known_of known (At w) ≡ Some p) → HasKnown (slice_set known v (Some next)) p
+        found : ((v ≡ w) × (next ≡ p)) ⊎ (knowledge_of known (At w) ≡ Some p) → HasKnown (slice_set known v (Some next)) p
         found (inl same) = subst (HasKnown (slice_set known v (Some next))) same.1 own
         found (inr other) = more p (closed (At w) p other)
 
 -- ---- the first columns
 
-at-range : (f : ℕ → Option Polynomial) (a n v : ℕ) (p : Polynomial) → known_of (map f (range_with_len a n)) (At v) ≡ Some p → f (a + v) ≡ Some p
+at-range : (f : ℕ → Option Polynomial) (a n v : ℕ) (p : Polynomial) → knowledge_of (map f (range_with_len a n)) (At v) ≡ Some p → f (a + v) ≡ Some p
 at-range f a zero v p e = cc
 at-range f a (suc n) zero p e = ap f (none a) ∙ e
   where
@@ -123,7 +123,7 @@ at-range f a (suc n) (suc v) p e = ap f (later a v) ∙ at-range f (a + 1) n v p
     later a v = omega arith
 
 -- an unmodified column stays
-pub unchanged-known : (body : Transition) (ms : List (List Col)) (v : ℕ) (p : Polynomial) → known_of (unchanged body ms) (At v) ≡ Some p → (is_modified true body.cases v ≡ false) × (column_of (At v) ≡ p)
+pub unchanged-known : (body : Transition) (ms : List (List Col)) (v : ℕ) (p : Polynomial) → knowledge_of (unmodified_columns body ms) (At v) ≡ Some p → (is_modified true body.cases v ≡ false) × (column_of (At v) ≡ p)
 unchanged-known body [] v p e = absurd (cc e)
 unchanged-known body (m ∷ ms) v p e =
     go (is_modified true body.cases v) refl
@@ -137,15 +137,15 @@ unchanged-known body (m ∷ ms) v p e =
     go true f g = absurd (cc g)
     go false f g = (f, ap (λ o. unwrap_or o p) g)
 
-known-some : (known : List (Option Polynomial)) (c : Col) (p : Polynomial) → known_of known c ≡ Some p → IsTrue (is_known known c)
+known-some : (known : List (Option Polynomial)) (c : Col) (p : Polynomial) → knowledge_of known c ≡ Some p → IsTrue (is_known known c)
 known-some known c p e = ap is_some e
 
-pub unchanged-closed : (body : Transition) (ms : List (List Col)) → IsClosed (unchanged body ms)
+pub unchanged-closed : (body : Transition) (ms : List (List Col)) → IsClosed (unmodified_columns body ms)
 unchanged-closed body ms = go
   where
-    go : (c : Col) (p : Polynomial) → known_of (unchanged body ms) c ≡ Some p → HasKnown (unchanged body ms) p
+    go : (c : Col) (p : Polynomial) → knowledge_of (unmodified_columns body ms) c ≡ Some p → HasKnown (unmodified_columns body ms) p
     go (Aux n) p e = cc
-    go (At v) p e = subst (HasKnown (unchanged body ms)) (unchanged-known body ms v p e).1 ((known-some (unchanged body ms) (At v) p e, tt), tt)
+    go (At v) p e = subst (HasKnown (unmodified_columns body ms)) (unchanged-known body ms v p e).1 ((known-some (unmodified_columns body ms) (At v) p e, tt), tt)
 
 pub term-closed : (variables : List ℕ) (known : List (Option Polynomial)) (t : Term) → IsClosed known → IsClosed (with_term variables known t)
 term-closed variables known t closed = go (sole variables t.relation.a)
@@ -183,7 +183,7 @@ pub terms-long : (body : Transition) (known : List (Option Polynomial)) (found :
 terms-long body known found n h =
     terms-keep (λ all. length all ≤ n) (λ t. Unit {0}) (moving true body) (λ all t any k. let same = term-long (moving true body) all t in omega arith) known (unwrap_or found []) (any-terms (unwrap_or found [])) h
 
-pub unchanged-long : (body : Transition) (ms : List (List Col)) → length (unchanged body ms) ≤ body.to
+pub unchanged-long : (body : Transition) (ms : List (List Col)) → length (unmodified_columns body ms) ≤ body.to
 unchanged-long body [] = omega arith
 unchanged-long body (m ∷ ms) = let same = length-map-range_with_len (λ v. if is_modified true body.cases v then None else Some (column_of (At v))) 0 body.to in omega arith
 
@@ -196,14 +196,14 @@ known-low (o ∷ known) (suc v) h = let low = known-low known v h in omega arith
 -- ---- what is put in for columns
 
 -- for a known column what is known of it
-pub turned-known : (known : List (Option Polynomial)) (c : Col) (p : Polynomial) → known_of known c ≡ Some p → put_in (turned known) [] c ≡ p
+pub turned-known : (known : List (Option Polynomial)) (c : Col) (p : Polynomial) → knowledge_of known c ≡ Some p → put_in (columns_after_turn known) [] c ≡ p
 turned-known known (Aux n) p e = cc
 turned-known [] (At v) p e = cc
 turned-known (o ∷ known) (At zero) p e = ap (λ q. unwrap_or q (constant_of (pos 0))) e
 turned-known (o ∷ known) (At (suc v)) p e = turned-known known (At v) p e
 
 -- each is known, or 0
-pub turned-each : (known : List (Option Polynomial)) (P : Polynomial → Type 0) → P (constant_of (pos 0)) → ((v : ℕ) (p : Polynomial) → known_of known (At v) ≡ Some p → P p) → AllByRecursion P (turned known)
+pub turned-each : (known : List (Option Polynomial)) (P : Polynomial → Type 0) → P (constant_of (pos 0)) → ((v : ℕ) (p : Polynomial) → knowledge_of known (At v) ≡ Some p → P p) → AllByRecursion P (columns_after_turn known)
 turned-each [] P none tells = tt
 turned-each (None ∷ known) P none tells = (none, turned-each known P none (λ v p e. tells (suc v) p e))
 turned-each (Some q ∷ known) P none tells = (tells 0 q refl, turned-each known P none (λ v p e. tells (suc v) p e))

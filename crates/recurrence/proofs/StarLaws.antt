@@ -26,7 +26,7 @@ use Rattle.linear_terms.proofs.Worth.{IsWorth-same, IsWorth-whole, IsWorth-colum
 use Rattle.transition_formula.specs.Composition.{identity_of}
 use Rattle.transition_formula.specs.Meaning.{numbers, HoldsCase, HoldsLeft, HoldsSome, Holds, IsChain, last_of, HoldsOfChains}
 use Rattle.transition_formula.specs.Transition.{Transition, fits, IsTransition, every_column_of, is_below}
-use Rattle.transition_formula.proofs.Covered.{both, each_from_test}
+use Rattle.transition_formula.proofs.ColumnTests.{both, each_from_test}
 use Rattle.transition_formula.proofs.Meanings.{joined-left, joined-right, identity-holds}
 use Rattle.posing.specs.Posing.{Posing, Done, Noted, Asked, ◌>>=◌, each, Always}
 use Rattle.posing.proofs.Paths.{always_bind, always_weaker, always_any}

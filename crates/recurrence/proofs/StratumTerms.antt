@@ -36,7 +36,7 @@ use Rattle.items.proofs.Each.{each-append, each-map, each-more}
 use Rattle.recurrence.specs.declared.terms.Recurrence.{Recurrence}
 use Rattle.recurrence.specs.declared.terms.Term.{Term}
 use Rattle.recurrence.specs.declared.terms.Strata.{Strata}
-use Rattle.recurrence.specs.Products.{unchanged, sole, with_solved, with_term, with_terms, sequences}
+use Rattle.recurrence.specs.Products.{unmodified_columns, sole, with_solved, with_term, with_terms, sequences}
 use Rattle.recurrence.specs.Strata.{steady, term_of, has_terms, stratum, steady_columns, over, stratum_if, is_short, has_grown, strata, all_terms}
 use Rattle.recurrence.specs.Star.{after, count, past_third, is_none_or_lost, term_row}
 use Rattle.linear_terms.proofs.Values.{int_eq-zero}
@@ -172,8 +172,8 @@ module _ (ms : List (List Col)) (body : Transition) (steps : ℕ) (states : ℕ 
   unfolding strata
   strata-along =
       always_bind (OfSome IsFirstTerm) AreStrata (stratum body []) _ first-along (λ v1 h1.
-      let known1 = with_terms body (unchanged body ms) v1 in
-      let next1 = terms-next (unchanged body ms) v1 (more-some 1 3 (omega arith) v1 (firsts v1 h1)) (unchanged-next body steps states run ms) in
+      let known1 = with_terms body (unmodified_columns body ms) v1 in
+      let next1 = terms-next (unmodified_columns body ms) v1 (more-some 1 3 (omega arith) v1 (firsts v1 h1)) (unchanged-next body steps states run ms) in
       always_bind (OfSome (IsTermAlong 2)) AreStrata (stratum_if (is_short (length (modified_variables true body)) v1) body (over body ms known1 v1)) _
       (next-along 1 (over body ms known1 v1) (over-along 1 (omega arith) known1 next1 v1 (firsts v1 h1)) (is_short (length (modified_variables true body)) v1)) (λ v2 h2.
       let known2 = with_terms body known1 v2 in

@@ -12,7 +12,7 @@ use Rattle.linear_terms.proofs.Columns.{EachColumn}
 use Rattle.transition_formula.specs.Composition.{identity_of, union_of}
 use Rattle.transition_formula.specs.Rounds.{in_order, solved_answer, Stays}
 use Rattle.transition_formula.specs.Transition.{Transition, IsTransition, IsSolvable, is_below, fits}
-use Rattle.transition_formula.proofs.Covered.{both, both_true}
+use Rattle.transition_formula.proofs.ColumnTests.{both, both_true}
 use Rattle.transition_formula.proofs.Fitting.{identity-fits}
 use Rattle.posing.specs.Posing.{Always, ◌>>=◌}
 use Rattle.posing.proofs.Paths.{always_weaker, always_any, always_bind}

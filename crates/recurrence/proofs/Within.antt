@@ -61,7 +61,7 @@ module _ (P : Col → Type 0) where
     as_made = λ r e.
         on_ok a (λ p. b >>= λ q. difference_of_polys p q) r e (λ p f g.
         on_ok b (λ q. difference_of_polys p q) r g (λ q h l.
-        on_ok (multiple_of q (negsuc 0)) (λ turned. sum_of_polys p turned) r l (λ t m n. sum_of_polys-each P p t r n (of_a.as_made p f) (multiple_of-each P q (negsuc 0) t m (of_b.as_made q h)))));
+        on_ok (multiple_of q (negsuc 0)) (λ columns_after_turn. sum_of_polys p columns_after_turn) r l (λ t m n. sum_of_polys-each P p t r n (of_a.as_made p f) (multiple_of-each P q (negsuc 0) t m (of_b.as_made q h)))));
   }
 
   pub within-or_zero : (m : Made) → IsWithin m → EachColumn P (or_zero m).terms

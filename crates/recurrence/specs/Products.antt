@@ -68,18 +68,18 @@ products body voc = if has_products voc.rule then products_in (changes_of true b
 -- far as that is known
 
 -- what is known of a column
-abbrev pub known_of : List (Option Polynomial) → Col → Option Polynomial
-known_of known (At v) = unwrap_or (slice_get known v) None
-known_of known (Aux n) = None
+abbrev pub knowledge_of : List (Option Polynomial) → Col → Option Polynomial
+knowledge_of known (At v) = unwrap_or (slice_get known v) None
+knowledge_of known (Aux n) = None
 
 -- it is known what a turn makes of the column
 abbrev pub is_known : List (Option Polynomial) → Col → Bool
-is_known known c = is_some (known_of known c)
+is_known known c = is_some (knowledge_of known c)
 
 -- an unmodified column stays as it is; nothing is looked at where there are no products
-abbrev pub unchanged : Transition → List (List Col) → List (Option Polynomial)
-unchanged body [] = []
-unchanged body (m ∷ ms) =
+abbrev pub unmodified_columns : Transition → List (List Col) → List (Option Polynomial)
+unmodified_columns body [] = []
+unmodified_columns body (m ∷ ms) =
     map (λ v. if is_modified true body.cases v then None else Some (column_of (At v)))
     (range_with_len 0 body.to)
 
@@ -126,8 +126,8 @@ with_terms body known found = fold (with_term (moving true body)) known (unwrap_
 -- ---- products along the turns
 
 -- what stands for each column after a turn; 0 where that is not known
-abbrev pub turned : List (Option Polynomial) → List Polynomial
-turned known = map (λ next. unwrap_or next (constant_of (pos 0))) known
+abbrev pub columns_after_turn : List (Option Polynomial) → List Polynomial
+columns_after_turn known = map (λ next. unwrap_or next (constant_of (pos 0))) known
 
 -- by how much a turn changes a polynomial
 abbrev pub growth : List Polynomial → Polynomial → Made
@@ -153,4 +153,4 @@ known_products known ms = filter (list_all (is_known known)) ms
 
 -- as sequences
 abbrev pub sequences : List (Option Polynomial) → List (List Col) → List Recurrence
-sequences known ms = map (sequence_of (turned known)) (known_products known ms)
+sequences known ms = map (sequence_of (columns_after_turn known)) (known_products known ms)

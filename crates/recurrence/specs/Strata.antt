@@ -20,7 +20,7 @@ use Rattle.recurrence.specs.declared.terms.Term.{Term}
 use Rattle.recurrence.specs.declared.terms.Strata.{Strata}
 use Rattle.recurrence.specs.declared.terms.RecurrencePart.{RecurrencePart}
 use Rattle.recurrence.specs.declared.terms.RecurrencePart.TheVariants.{Start, First, Second, Third}
-use Rattle.recurrence.specs.Products.{sequences, unchanged, with_terms}
+use Rattle.recurrence.specs.Products.{sequences, unmodified_columns, with_terms}
 
 -- ---- difference equations
 
@@ -101,9 +101,9 @@ unfoldable pub strata : Transition → List (List Col) → Posing Strata
 strata body ms =
     stratum body [] >>= λ v1.
     stratum_if (is_short (length (modified_variables true body)) v1) body
-    (over body ms (with_terms body (unchanged body ms) v1) v1) >>= λ v2.
+    (over body ms (with_terms body (unmodified_columns body ms) v1) v1) >>= λ v2.
     stratum_if (has_grown v1 v2 && is_short (length (modified_variables true body)) v2) body
-    (over body ms (with_terms body (with_terms body (unchanged body ms) v1) v2) v2)
+    (over body ms (with_terms body (with_terms body (unmodified_columns body ms) v1) v2) v2)
     >>= λ v3.
     Done record { first = unwrap_or v1 []; second = unwrap_or v2 []; third = unwrap_or v3 [] }
 

@@ -13,7 +13,7 @@ use Rattle.linear_terms.specs.declared.row.Case.{Case}
 use Rattle.posing.specs.Posing.{Posing, ◌>>=◌, each}
 use Rattle.recurrence.specs.declared.terms.Term.{Term}
 use Rattle.recurrence.specs.Progressions.{Progression, signs, progressions_of, bounded_progression}
-use Rattle.recurrence.specs.Products.{products, known_of, is_known}
+use Rattle.recurrence.specs.Products.{products, knowledge_of, is_known}
 use Rattle.recurrence.specs.Star.{after_from, count, past_third, posts, moves, rows_of}
 use Rattle.recurrence.specs.Strata.{strata}
 use Rattle.linear_terms.specs.declared.col.Col.TheVariants.{At, Aux}
@@ -116,9 +116,9 @@ bounds_at_ends cases after along rows = each (rows_with_entry_bound cases) rows 
 
 -- an unmodified column stays as it is, by the modified variables; nothing is looked at where there
 -- are no products
-abbrev pub unchanged_by : List ℕ → ℕ → List (List Col) → List (Option Polynomial)
-unchanged_by modified to [] = []
-unchanged_by modified to (m ∷ ms) =
+abbrev pub unmodified_columns_by : List ℕ → ℕ → List (List Col) → List (Option Polynomial)
+unmodified_columns_by modified to [] = []
+unmodified_columns_by modified to (m ∷ ms) =
     map (λ v. if is_among modified v then None else Some (column_of (At v))) (range_with_len 0 to)
 
 -- the polynomial has known columns alone
@@ -127,7 +127,7 @@ HasKnown known p = AllByRecursion (λ t. AllByRecursion (λ c. is_known known c 
 
 -- so has what a turn makes of each known column
 abbrev pub IsClosed : List (Option Polynomial) → Type 0
-IsClosed known = (c : Col) (p : Polynomial) → known_of known c ≡ Some p → HasKnown known p
+IsClosed known = (c : Col) (p : Polynomial) → knowledge_of known c ≡ Some p → HasKnown known p
 
 -- polynomials for columns have no columns but these
 abbrev pub AreCovered : List Polynomial → Type 0

@@ -6,7 +6,7 @@ ghost use Rattle.polyhedra.specs.Bounds.{IsCovered};
 ghost use Rattle.recurrence.specs.Products.{growth, grown, sequence_of, sequences};
 ghost use Rattle.recurrence.specs.Words.{IsClosed, AreCovered, IsCoveredIfMade};
 
-use crate::solving::{known_products, turned};
+use crate::solving::{columns_after_turn, known_products};
 use crate::terms::{Recurrence, term_or_step};
 use items::Items;
 use linear_terms::{Mono, Poly, TermError, difference, subst};
@@ -22,7 +22,7 @@ pub(crate) fn sequences(
     ensures { IfOk result (λ made. made ≡ sequences known.now products.now) }
 {
     let monos = known_products(alloc, known, products)?;
-    let next = turned(alloc, known)?;
+    let next = columns_after_turn(alloc, known)?;
     sequences_of(alloc, next.as_slice(), monos.as_slice())
 }
 

@@ -11,5 +11,5 @@ mod stratifying;
 mod terms;
 mod turning;
 
-pub use law::law_of_star;
+pub use law::star_covers_chains;
 pub use repeating::star;

@@ -5,7 +5,7 @@ ghost use Rattle.items.specs.Gives.{Gives};
 ghost use Rattle.linear_terms.specs.declared.col.Col.TheVariants.{At, Aux};
 ghost use Rattle.linear_terms.specs.Expressions.{◌⊟◌, ◌⊠◌, column, whole};
 ghost use Rattle.linear_terms.specs.TermError.{cause};
-ghost use Rattle.posing.specs.Follows.{Follows};
+ghost use Rattle.posing.specs.Follows.{Asks};
 ghost use Rattle.posing.specs.Posing.{each};
 ghost use Rattle.polyhedra.specs.Changes.{change};
 ghost use Rattle.polyhedra.specs.Bounds.{bound_of, goals_of};
@@ -142,7 +142,7 @@ fn with_progression<O: Oracle>(
     requires posts { All (λ case. length case.post ≡ to) cases.now }
     requires few { length modified.now < 2 ^ 32 }
     requires low { v < to }
-    ensures { Follows O.asking oracle.old oracle.new log.old log.new result
+    ensures { Asks O.asking oracle log result
         (rows_with_progression_bound cases.now modified.now rows
         (record { variable = v; up = up.now; term = term.now; by = by.now })) }
 {
@@ -170,7 +170,7 @@ fn bound_over<O: Oracle>(
 ) -> Result<Option<i128>, WorkError>
     requires posts { All (λ case. length case.post ≡ to) cases.now }
     requires low { v < to }
-    ensures { Follows O.asking oracle.old oracle.new log.old log.new result
+    ensures { Asks O.asking oracle log result
         (bound_of cases.now
         (excess (record { variable = v; up = up.now; term = term.now; by = by.now }))) }
 {
@@ -292,7 +292,7 @@ fn with_both_slopes<O: Oracle>(
     requires posts { All (λ case. length case.post ≡ to) cases.now }
     requires few { length modified.now < 2 ^ 32 }
     requires low { v < to }
-    ensures { Follows O.asking oracle.old oracle.new log.old log.new result
+    ensures { Asks O.asking oracle log result
         (by_term cases.now modified.now v up.now rows term.now) }
 {
     let once = with_progression(
@@ -320,7 +320,7 @@ fn with_terms<O: Oracle>(
     requires posts { All (λ case. length case.post ≡ to) cases.now }
     requires few { length modified.now < 2 ^ 32 }
     requires low { v < to }
-    ensures { Follows O.asking oracle.old oracle.new log.old log.new result
+    ensures { Asks O.asking oracle log result
         (each (by_term cases.now modified.now v up.now) rows terms.now) }
 {
     let mut made = rows;
@@ -345,7 +345,7 @@ fn with_variable<O: Oracle>(
     requires posts { All (λ case. length case.post ≡ to) cases.now }
     requires few { length modified.now < 2 ^ 32 }
     requires low { v.now < to }
-    ensures { Follows O.asking oracle.old oracle.new log.old log.new result
+    ensures { Asks O.asking oracle log result
         (by_variable cases.now modified.now terms.now rows v.now) }
 {
     let upward = with_terms(alloc, rows, cases, to, modified, *v, &1, terms, oracle, log)?;
@@ -370,7 +370,7 @@ fn with_variables<O: Oracle>(
     requires posts { All (λ case. length case.post ≡ to) cases.now }
     requires few { length modified.now < 2 ^ 32 }
     requires low { All (λ v. v < to) variables.now }
-    ensures { Follows O.asking oracle.old oracle.new log.old log.new result
+    ensures { Asks O.asking oracle log result
         (each (by_variable cases.now modified.now terms.now) rows variables.now) }
 {
     let mut made = rows;
@@ -393,7 +393,7 @@ pub(crate) fn with_progressions<O: Oracle>(
 ) -> Result<Items<Row>, WorkError>
     requires movement { IsMovement body.now movement.now }
     requires few { body.now.to < 2 ^ 31 }
-    ensures { Follows O.asking oracle.old oracle.new log.old log.new result
+    ensures { Asks O.asking oracle log result
         (each (bounded_progression body.now.cases (change_over_turns body.now) (count body.now)) rows
         (progressions body.now voc.now strata.now)) }
 {

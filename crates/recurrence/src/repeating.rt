@@ -2,7 +2,7 @@ ghost use Rattle.std.specs.Prelude.{◌≡◌, IfOk, option_to_list};
 ghost use Rattle.transition_formula.specs.Composition.{identity_of, union_of};
 ghost use Rattle.transition_formula.specs.Meaning.{HoldsOfChains};
 ghost use Rattle.transition_formula.specs.Transition.{IsTransition};
-ghost use Rattle.posing.specs.Follows.{Follows};
+ghost use Rattle.posing.specs.Follows.{Asks};
 ghost use Rattle.recurrence.specs.Law.{IsStarred, IsStar};
 ghost use Rattle.recurrence.specs.Star.{star_of};
 
@@ -28,8 +28,7 @@ pub fn star<O: Oracle>(
     log: &mut Log,
 ) -> Result<Formula, WorkError>
     requires { IsStarred body.now voc.now }
-    ensures follows { Follows O.asking oracle.old oracle.new log.old log.new result
-        (star_of body.now voc.now) }
+    ensures follows { Asks O.asking oracle log result (star_of body.now voc.now) }
     ensures holds { IfOk result (HoldsOfChains body.now) }
     ensures fits { IfOk result (IsStar body.now.to) }
 {
@@ -47,8 +46,7 @@ fn repeated_body<O: Oracle>(
     log: &mut Log,
 ) -> Result<Formula, WorkError>
     requires { IsStarred body.now voc.now }
-    ensures { Follows O.asking oracle.old oracle.new log.old log.new result
-        (star_of body.now voc.now) }
+    ensures { Asks O.asking oracle log result (star_of body.now voc.now) }
 {
     if body.cases().is_empty() {
         return Ok(identity(alloc, body.from())?);

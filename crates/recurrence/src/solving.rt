@@ -8,8 +8,8 @@ ghost use Rattle.linear_terms.specs.Expressions.{◌⊞◌, column};
 ghost use Rattle.linear_terms.specs.Polynomial.{constant_of, column_of};
 ghost use Rattle.linear_terms.specs.TermError.{cause};
 ghost use Rattle.transition_formula.specs.Transition.{every_column};
-ghost use Rattle.recurrence.specs.Products.{is_known, is_open, sole, with_next, with_change, with_term, known_products, turned};
-ghost use Rattle.recurrence.specs.Words.{is_among, unchanged_by};
+ghost use Rattle.recurrence.specs.Products.{is_known, is_open, sole, with_next, with_change, with_term, known_products, columns_after_turn};
+ghost use Rattle.recurrence.specs.Words.{is_among, unmodified_columns_by};
 
 use crate::progressions::are_zero;
 use crate::stratifying::is_among;
@@ -20,13 +20,13 @@ use std::alloc::{AllocError, Global};
 
 /// What a turn makes of columns, before any is solved: an unmodified one stays as it is. Nothing is
 /// looked at where there are no products.
-pub(crate) fn unchanged(
+pub(crate) fn unmodified_columns(
     alloc: Global,
     modified: &[u32],
     to: u32,
     products: &[Mono],
 ) -> Result<Items<Option<Poly>>, AllocError>
-    ensures { IfOk result (λ known. known ≡ unchanged_by modified.now to products.now) }
+    ensures { IfOk result (λ known. known ≡ unmodified_columns_by modified.now to products.now) }
 {
     match products {
         [] => Ok(Items::new(alloc)),
@@ -231,8 +231,11 @@ pub(crate) fn known_products(
 }
 
 /// What stands for each column after a turn; 0 where that is not known.
-pub(crate) fn turned(alloc: Global, known: &[Option<Poly>]) -> Result<Items<Poly>, AllocError>
-    ensures { IfOk result (λ next. next ≡ turned known.now) }
+pub(crate) fn columns_after_turn(
+    alloc: Global,
+    known: &[Option<Poly>],
+) -> Result<Items<Poly>, AllocError>
+    ensures { IfOk result (λ next. next ≡ columns_after_turn known.now) }
 {
     let mut all = Items::new(alloc);
     for next in known {

@@ -3,12 +3,12 @@ ghost use Rattle.std.specs.List.{filter};
 ghost use Rattle.std.specs.Option.{option_map};
 ghost use Rattle.farkas_check.specs.Relations.{have_equally_many};
 ghost use Rattle.polyhedra.specs.Changes.{is_modified, moving, occurring};
-ghost use Rattle.posing.specs.Follows.{Follows};
+ghost use Rattle.posing.specs.Follows.{Asks};
 ghost use Rattle.recurrence.specs.Strata.{term_of, has_terms, stratum, steady_columns, over, steady, stratum_if, is_short, has_grown, strata};
 ghost use Rattle.recurrence.specs.Words.{Rise, IsMovement, IsClosed, is_among};
 
 use crate::growing::sequences;
-use crate::solving::{unchanged, with_terms};
+use crate::solving::{unmodified_columns, with_terms};
 use crate::terms::{Recurrence, Strata, Term, has_terms, steady, term_of};
 use farkas_check::{Change, Oracle, Relation, Stratum};
 use items::Items;
@@ -29,12 +29,11 @@ pub(crate) fn strata_of<O: Oracle>(
 ) -> Result<Strata, WorkError>
     requires ends { body.now.from ≡ body.now.to }
     requires movement { IsMovement body.now movement.now }
-    ensures { Follows O.asking oracle.old oracle.new log.old log.new result
-        (strata body.now products.now) }
+    ensures { Asks O.asking oracle log result (strata body.now products.now) }
 {
     let most = movement.modified.len();
     let moving = movement.moving.as_slice();
-    let unsolved = unchanged(alloc, movement.modified.as_slice(), body.to(), products)?;
+    let unsolved = unmodified_columns(alloc, movement.modified.as_slice(), body.to(), products)?;
     let first = one_stratum(alloc, body, movement, &[], oracle, log)?;
     let asked = is_short(most, &first);
     let known = with_terms(alloc, unsolved, moving, &first)?;
@@ -66,8 +65,7 @@ fn one_stratum<O: Oracle>(
     log: &mut Log,
 ) -> Result<Option<Items<Term>>, WorkError>
     requires { IsMovement body.now movement.now }
-    ensures { Follows O.asking oracle.old oracle.new log.old log.new result
-        (stratum body.now lower.now) }
+    ensures { Asks O.asking oracle log result (stratum body.now lower.now) }
 {
     let cases = cases_of(movement)?;
     let starts = starts_of(alloc, lower)?;
@@ -94,7 +92,7 @@ fn next_stratum<O: Oracle>(
     requires ends { body.now.from ≡ body.now.to }
     requires movement { IsMovement body.now movement.now }
     requires closed { IsClosed known.now }
-    ensures { Follows O.asking oracle.old oracle.new log.old log.new result
+    ensures { Asks O.asking oracle log result
         (stratum_if asked body.now (over body.now products.now known.now below.now)) }
 {
     if !asked {

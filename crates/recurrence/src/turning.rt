@@ -5,7 +5,7 @@ ghost use Rattle.linear_terms.specs.declared.col.Col.TheVariants.{Aux};
 ghost use Rattle.linear_terms.specs.Polynomial.{column_of};
 ghost use Rattle.linear_terms.specs.TermError.{cause};
 ghost use Rattle.transition_formula.specs.Loss.{answer_of, losses_of};
-ghost use Rattle.posing.specs.Follows.{Follows};
+ghost use Rattle.posing.specs.Follows.{Asks};
 ghost use Rattle.posing.specs.Logs.{Adds, loss_notes};
 ghost use Rattle.polyhedra.specs.Bounds.{IsCovered, IsCoveredByPosts};
 ghost use Rattle.polyhedra.specs.Changes.{lost_changes, modified_variables};
@@ -40,8 +40,7 @@ pub(crate) fn turns<O: Oracle>(
     log: &mut Log,
 ) -> Result<Case, WorkError>
     requires { IsStarred body.now voc.now }
-    ensures { Follows O.asking oracle.old oracle.new log.old log.new result
-        (turns body.now voc.now) }
+    ensures { Asks O.asking oracle log result (turns body.now voc.now) }
 {
     let movement = movement_of(alloc, true, body)?;
     turns_by(alloc, body, voc, &movement, oracle, log)
@@ -59,8 +58,7 @@ fn turns_by<O: Oracle>(
     requires starred { IsStarred body.now voc.now }
     requires movement { IsMovement body.now movement.now }
     requires lost { loss_notes movement.now.lost ≡ lost_changes true body.now }
-    ensures { Follows O.asking oracle.old oracle.new log.old log.new result
-        (turns body.now voc.now) }
+    ensures { Asks O.asking oracle log result (turns body.now voc.now) }
 {
     let aux = movement.modified.len() as u32 + 1;
     let post = noted_posts(alloc, body, movement, log)?;
@@ -98,8 +96,7 @@ fn rows_by_strata<O: Oracle>(
 ) -> Result<Items<Row>, WorkError>
     requires starred { IsStarred body.now voc.now }
     requires movement { IsMovement body.now movement.now }
-    ensures { Follows O.asking oracle.old oracle.new log.old log.new result
-        (rows_by_strata body.now voc.now) }
+    ensures { Asks O.asking oracle log result (rows_by_strata body.now voc.now) }
 {
     let products = products(alloc, movement, voc)?;
     let monos = products.as_slice();
@@ -122,8 +119,7 @@ fn rows_of<O: Oracle>(
     requires starred { IsStarred body.now voc.now }
     requires movement { IsMovement body.now movement.now }
     requires products { monos.now ≡ products body.now voc.now }
-    ensures { Follows O.asking oracle.old oracle.new log.old log.new result
-        (rows_of body.now voc.now strata.now) }
+    ensures { Asks O.asking oracle log result (rows_of body.now voc.now strata.now) }
 {
     let modified = movement.modified.as_slice();
     let terms = terms_with_row(alloc, monos, strata)?;
@@ -352,8 +348,7 @@ fn bound_rows<O: Oracle>(
 ) -> Result<Items<Row>, WorkError>
     requires starred { IsStarred body.now voc.now }
     requires modified { AreModified body.now modified.now }
-    ensures { Follows O.asking oracle.old oracle.new log.old log.new result
-        (bound_rows body.now voc.now rows) }
+    ensures { Asks O.asking oracle log result (bound_rows body.now voc.now rows) }
 {
     let mut directions = directions(alloc, voc)?;
     let cases = body.cases();
@@ -389,7 +384,7 @@ fn bounds_at_ends<O: Oracle>(
 ) -> Result<Items<Row>, WorkError>
     requires posts { All (IsCoveredByPosts cases.now) directions.now }
     requires rows { All (IsCovered (length after.now)) directions.now }
-    ensures { Follows O.asking oracle.old oracle.new log.old log.new result
+    ensures { Asks O.asking oracle log result
         (bounds_at_ends cases.now after.now directions.now rows) }
 {
     let before = bounds_before(alloc, rows, cases, directions, oracle, log)?;

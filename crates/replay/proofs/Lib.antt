@@ -1,5 +1,5 @@
 -- ---- what the chosen execution comes to: `chosen_is_execution`, `choices_take_values`
-pub mod Chosen
+pub mod ChosenExecutions
 -- ---- traces: `failed_stop_fails`, `traces_are_determined`, and those that are made
 pub mod Traces
 -- ---- texts that are put together

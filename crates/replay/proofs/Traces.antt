@@ -25,7 +25,7 @@ use Rattle.replay.specs.declared.turns.End.{End}
 use Rattle.replay.specs.Chosen.{EndsBy, IsTrace, Reached, chosen, further, step_on}
 use Rattle.replay.specs.Follow.{stop_of}
 use Rattle.replay.specs.Laws.{FailedStopFails, TracesAreDetermined}
-use Rattle.replay.proofs.Chosen.{chosen-can, chosen_is_execution}
+use Rattle.replay.proofs.ChosenExecutions.{chosen-can, chosen_is_execution}
 
 -- ---- a cause that is known
 

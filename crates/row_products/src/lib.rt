@@ -9,5 +9,5 @@ mod laws;
 mod offering;
 mod rows;
 
-pub use laws::law_of_products;
+pub use laws::products_are_true;
 pub use offering::products;

@@ -21,7 +21,7 @@ use Rattle.typing.specs.Calls.{if_assertion, listed_if}
 use Rattle.typing.specs.Elaborated.{checks_in}
 use Rattle.typing.specs.Lines.{all_checks_of, checks_of}
 use Rattle.typing.specs.Specials.{special_of}
-use Rattle.typing.proofs.Answered.{answered}
+use Rattle.typing.proofs.Outcomes.{answered}
 use Rattle.summary_cache.specs.Laws.{AssertionsAscend}
 
 -- these places are those of some of the tokens, in their order

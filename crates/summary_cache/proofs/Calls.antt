@@ -33,7 +33,7 @@ use Rattle.typing.specs.Scopes.{Entry, Scope, callee_of, column_of, with_declara
 use Rattle.typing.specs.Specials.{arguments_of, special_of}
 use Rattle.typing.specs.Terms.{all_temporaries, count_of, temporaries, term_in, terms_in}
 use Rattle.typing.specs.Texts.{beginning, body_columns, body_env, count_globals, declarations, procedure, with_params}
-use Rattle.typing.proofs.Answered.{answered}
+use Rattle.typing.proofs.Outcomes.{answered}
 use Rattle.typing.proofs.Splits.{cons_is_not_nil, first_nil, second_nil}
 use Rattle.summary_cache.specs.Calls.{CallsAreStatements, all_expression_names, all_line_names, called_names, callees, callees_in, expression_names, line_names, name_at, own_name, proc_name, value_names}
 

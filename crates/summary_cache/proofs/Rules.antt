@@ -64,8 +64,8 @@ module _ (program : Program) (rule : ℕ) where
     assertions = formed.assertions;
     main = formed.main;
     each = λ k d below. proc-fits _ (formed.each k d below);
-    first_rule = leb-true 1 rule (and_parts (nat_le 1 rule) _ is).0;
-    last_rule = leb-true rule 4 (and_parts (nat_le rule 4) _ (and_parts (nat_le 1 rule) _ is).1).0;
+    first_rule = leb-true 1 rule (and_parts (nat_le 1 rule) (nat_le rule 4) is).0;
+    last_rule = leb-true rule 4 (and_parts (nat_le 1 rule) (nat_le rule 4) is).1;
     once = formed.once;
   }
 

@@ -160,7 +160,7 @@ module _ (rule : ℕ) (text : List ℕ) (program ruled : Program) (plan : List P
                 record { enters = known.enters; leaves = known.leaves; fits = known.fits; cases = known.cases; auxiliaries = known.auxiliaries };
           };
           points = points;
-          named = λ no_phases. analysis-names (with_rule rule program) (places_of text program) plan (answers_in parts ++ rest) report no_phases is.planned.is_plan
+          named = λ is_plain. analysis-names (with_rule rule program) (places_of text program) plan (answers_in parts ++ rest) report is_plain is.planned.is_plan
               (any-leads (IsGood allows) (analysis_of rule text program plan) (Done report) [] (answers_in parts ++ rest) leads) ruled_covers;
         }
 

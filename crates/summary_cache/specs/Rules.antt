@@ -1,14 +1,14 @@
 -- The rule by which iterations are summed up is that of the session, and no execution knows it.
-use Rattle.std.specs.Prelude.{ℕ, Bool, IsTrue, ◌&&◌, ◌==◌, nat_le, not}
+use Rattle.std.specs.Prelude.{ℕ, IsTrue, ◌&&◌, nat_le}
 use Rattle.syntax_tree.specs.declared.program.Program.{Program}
 use Rattle.syntax_tree.specs.WellFormed.{IsWellFormed}
 use Rattle.report.specs.declared.blocks.Report.{Report}
 use Rattle.report.specs.Claims.{ClaimsAreMet}
 
 -- the rules that a session may have: those of the first and the second version of a certificate
--- file, and that of phases
+-- file, that of facets, and that of phases
 abbrev pub IsRule : ℕ → Type 0
-IsRule rule = IsTrue (nat_le 1 rule && (nat_le rule 4 && not (rule == 3)))
+IsRule rule = IsTrue (nat_le 1 rule && nat_le rule 4)
 
 -- a program with another rule
 abbrev pub with_rule : ℕ → Program → Program

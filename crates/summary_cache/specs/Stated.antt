@@ -5,7 +5,7 @@ use Rattle.farkas_check.specs.declared.question.Question.{Question}
 use Rattle.syntax_tree.specs.declared.program.Program.{Program}
 use Rattle.posing.specs.Follows.{IsGood}
 use Rattle.posing.specs.Posing.{Path, Posed, Posing, Done, run}
-use Rattle.phases.specs.Rules.{has_phases}
+use Rattle.phases.specs.Rules.{IsPlainRule}
 use Rattle.report.specs.declared.blocks.Report.{Report}
 use Rattle.report.specs.Claims.{ClaimsAreMet, PointsMeetRows, ReportCovers}
 use Rattle.analysis.specs.declared.places.TextPlace.{TextPlace}
@@ -37,8 +37,8 @@ analysis_of rule text program plan = report_by_plan (with_rule rule program) (pl
 
 -- The text is accepted, and the report is what the analysis of its program comes to under these
 -- answers, each of which passes, is true and is one that may be given. It covers the program, its
--- claims are met, each point that it tells makes the rows of its case true, and under a rule without
--- phases it names the limits of the answers, part by part.
+-- claims are met, each point that it tells makes the rows of its case true, and under a rule with
+-- neither phases nor facets it names the limits of the answers, part by part.
 pub record IsAnalysedBy (allows : Question → Answer → Type 0) (rule : ℕ) (text : List ℕ)
     (answers : List Answer) (report : Report) : Type 0 where
   pub program : Program
@@ -48,7 +48,7 @@ pub record IsAnalysedBy (allows : Question → Answer → Type 0) (rule : ℕ) (
   pub met : ClaimsAreMet program report
   pub covers : ReportCovers program report
   pub points : PointsMeetRows report
-  pub named : has_phases rule ≡ false → LimitsAreNamed (with_rule rule program) plan answers report
+  pub named : IsPlainRule rule → LimitsAreNamed (with_rule rule program) plan answers report
 
 -- The text is accepted, and the analysis of its program comes to this under listed answers.
 pub record IsPosed (rule : ℕ) (text : List ℕ) (program : Program) (answers : List Answer)

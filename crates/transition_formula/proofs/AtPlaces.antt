@@ -22,7 +22,7 @@ use Rattle.linear_terms.specs.MonoOrder.{mono_cmp_total}
 use Rattle.linear_terms.specs.Polynomial.{Terms, Polynomial}
 use Rattle.transition_formula.specs.Places.{Key, key_by, key_of, term_cmp, key_cmp, first_place, TellsPlaces}
 use Rattle.transition_formula.specs.Rows.{alike_by, alike, stronger, with_row}
-use Rattle.transition_formula.proofs.Covered.{both}
+use Rattle.transition_formula.proofs.ColumnTests.{both}
 use Rattle.transition_formula.proofs.Loops.{row_with}
 use Rattle.transition_formula.proofs.Truths.{terms_same}
 

@@ -19,8 +19,8 @@ use Rattle.transition_formula.specs.Loss.{answer_of}
 use Rattle.transition_formula.specs.Order.{first_equation, solution, with_solution}
 use Rattle.transition_formula.specs.Rounds.{with_rows, with_solved}
 use Rattle.transition_formula.specs.Transition.{every_column}
-use Rattle.transition_formula.proofs.Carried.{solution-passes, tidied-passes, with_solution-carries}
-use Rattle.transition_formula.proofs.Covered.{both, count_lost, lost, rows_by-covered}
+use Rattle.transition_formula.proofs.CarriedColumns.{solution-passes, tidied-passes, with_solution-carries}
+use Rattle.transition_formula.proofs.ColumnTests.{both, count_lost, lost, rows_by-covered}
 use Rattle.transition_formula.proofs.Fitting.{true-below}
 use Rattle.transition_formula.proofs.Numbers.{occurs-below}
 use Rattle.transition_formula.proofs.Rounding.{AllNumbered, IsTidied, found_at, test_got, test_removed}

@@ -12,7 +12,7 @@ use Rattle.linear_terms.specs.Polynomial.{column_of, constant_of}
 use Rattle.linear_terms.specs.Replacement.{put_in}
 use Rattle.transition_formula.specs.Transition.{every_column, every_column_of, is_below, fits, IsTransition, Transition}
 use Rattle.transition_formula.specs.Composition.{rows_by, sequence_of_cases, sequence_of, after_case, identity_of}
-use Rattle.transition_formula.proofs.Covered.{both, both_true, lost, Carries, substituted-carries, test_from_columns, more_columns, more_columns_of, all_more, rows_by-covered, posts_by-covered, posts_by-length}
+use Rattle.transition_formula.proofs.ColumnTests.{both, both_true, lost, Carries, substituted-carries, test_from_columns, more_columns, more_columns_of, all_more, rows_by-covered, posts_by-covered, posts_by-length}
 use Rattle.transition_formula.proofs.Sequences.{later}
 
 pub below-true : (a b : ℕ) → a < b → IsTrue (nat_lt a b)

@@ -22,10 +22,10 @@ use Rattle.transition_formula.specs.Hiding.{entries_hidden, own_auxiliaries, hid
 use Rattle.transition_formula.specs.Loss.{losses_of}
 use Rattle.transition_formula.specs.Meaning.{numbers, HoldsCase, HoldsSome, Holds}
 use Rattle.transition_formula.specs.Transition.{Transition, every_column, every_column_of, is_below, fits, IsTransition}
-use Rattle.transition_formula.proofs.Covered.{both, both_true, lost, Carries, substituted-carries, rows_by-covered, posts_by-covered, posts_by-length}
+use Rattle.transition_formula.proofs.ColumnTests.{both, both_true, lost, Carries, substituted-carries, rows_by-covered, posts_by-covered, posts_by-length}
 use Rattle.transition_formula.proofs.Fitting.{Fitting, fitting, from_fitting, below-true, true-below, columns_pass, test_of_get}
 use Rattle.transition_formula.proofs.Meanings.{both_aux, first_aux, second_aux, lost_aux}
-use Rattle.transition_formula.proofs.Telling.{substituted-tells}
+use Rattle.transition_formula.proofs.NotedErrors.{substituted-tells}
 use Rattle.transition_formula.proofs.Values.{Keeps, lost_values, column-value, value-agrees, none-of, rows_by-hold, rows_by-held, posts_by-values, posts_by-kept}
 
 -- ---- what is put in

@@ -2,7 +2,7 @@
 pub mod Ordering
 pub mod NormalRows
 pub mod Solutions
-pub mod Renumbered
+pub mod RenumberedCases
 pub mod Truths
 -- ---- sequence, choice and some of the posts
 pub mod HiddenColumns
@@ -11,18 +11,18 @@ pub mod Meeting
 pub mod PostsAsEntries
 pub mod Sequences
 pub mod SomePosts
-pub mod Telling
+pub mod NotedErrors
 pub mod Values
 -- ---- which columns results have, and which formulas can be put in order
-pub mod Carried
-pub mod Covered
+pub mod CarriedColumns
+pub mod ColumnTests
 pub mod Few
 pub mod FewAuxiliaries
-pub mod Fitted
+pub mod FittedFormulas
 pub mod Fitting
-pub mod Kept
+pub mod KeptCases
 pub mod Numbers
-pub mod Tidied
+pub mod TidiedRows
 -- ---- loops of the code
 pub mod AtPlaces
 pub mod Loops

@@ -18,10 +18,10 @@ use Rattle.transition_formula.specs.Loss.{losses_of}
 use Rattle.transition_formula.specs.Transition.{Transition, is_below, fits, IsTransition}
 use Rattle.transition_formula.specs.Meaning.{numbers, HoldsCase, HoldsSome, Holds}
 use Rattle.transition_formula.specs.Composition.{identity_of, union_of, losses_by, rows_by, after_case, sequence_of_cases, sequence_of, losses_in_sequence}
-use Rattle.transition_formula.proofs.Covered.{both}
+use Rattle.transition_formula.proofs.ColumnTests.{both}
 use Rattle.transition_formula.proofs.Fitting.{Fitting, fitting, below-true, true-below}
 use Rattle.transition_formula.proofs.Sequences.{later}
-use Rattle.transition_formula.proofs.Telling.{substituted-tells}
+use Rattle.transition_formula.proofs.NotedErrors.{substituted-tells}
 use Rattle.transition_formula.proofs.Values.{Keeps, lost_values, column-value, value-agrees, rows-agree, posts-agree, none-of, rows_by-hold, rows_by-held, posts_by-values, posts_by-kept}
 
 -- ---- choice

@@ -12,9 +12,9 @@ use Rattle.linear_terms.proofs.Normals.{normal_form-SaysAsMuch}
 use Rattle.transition_formula.specs.Meaning.{AreTrueLeft}
 use Rattle.transition_formula.specs.Loss.{error_losses}
 use Rattle.transition_formula.specs.Rows.{with_normal, normal_rows, each_once, opposites_met, tidied_rows}
-use Rattle.transition_formula.proofs.Tidied.{EachRow}
+use Rattle.transition_formula.proofs.TidiedRows.{EachRow}
 use Rattle.transition_formula.proofs.Truths.{once_met-hold, once_met-held}
-use Rattle.transition_formula.proofs.Telling.{Tells, lost-some, normal_form-tells}
+use Rattle.transition_formula.proofs.NotedErrors.{Tells, lost-some, normal_form-tells}
 use Rattle.transition_formula.proofs.Values.{none-of}
 
 abbrev pub AreCanonicalEach : List Row → Type 0

@@ -13,7 +13,7 @@ use Rattle.linear_terms.specs.Polynomial.{Terms, Polynomial}
 use Rattle.linear_terms.specs.Auxiliaries.{is_auxiliary, has_auxiliary, occurs, renumbered_column, renumbered_polynomial, is_numbered, KeepsOrder}
 use Rattle.transition_formula.specs.Transition.{every_column, every_column_of}
 use Rattle.transition_formula.specs.Renumbering.{occurs_in, count_below, new_number, renumbered_row, renumbered_case}
-use Rattle.transition_formula.proofs.Covered.{both, all_more, more_columns, more_columns_of}
+use Rattle.transition_formula.proofs.ColumnTests.{both, all_more, more_columns, more_columns_of}
 use Rattle.transition_formula.proofs.Fitting.{below-true, true-below}
 use Rattle.transition_formula.proofs.Loops.{met_by, or_left, or_right}
 

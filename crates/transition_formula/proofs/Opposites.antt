@@ -16,7 +16,7 @@ use Rattle.linear_terms.specs.Polynomial.{Terms, Polynomial}
 use Rattle.transition_formula.specs.Places.{Key, key_by, key_of, first_place, EachApart}
 use Rattle.transition_formula.specs.Rows.{is_at_most, negated_terms, are_opposite, exclude, close, with_row, each_once, with_met}
 use Rattle.transition_formula.proofs.AtPlaces.{key_total, same_key, key_exact, terms-tie, none_mapped, some_mapped, row-new, row-at}
-use Rattle.transition_formula.proofs.Covered.{both, both_true}
+use Rattle.transition_formula.proofs.ColumnTests.{both, both_true}
 use Rattle.transition_formula.proofs.Fitting.{below-true, true-below}
 use Rattle.transition_formula.proofs.Loops.{row_with}
 use Rattle.transition_formula.proofs.Meanings.{not-below}

@@ -18,7 +18,7 @@ use Rattle.transition_formula.specs.declared.loss.Loss.{Loss}
 use Rattle.transition_formula.specs.declared.solving.Solved.{Solved}
 use Rattle.transition_formula.specs.declared.error.FormulaError.{FormulaError}
 use Rattle.transition_formula.specs.Transition.{fits}
-use Rattle.transition_formula.proofs.Kept.{kept-fits}
+use Rattle.transition_formula.proofs.KeptCases.{kept-fits}
 use Rattle.transition_formula.specs.Composition.{rows_by, row_of}
 use Rattle.transition_formula.specs.Meaning.{AreTrueLeft, numbers, HoldsCase, HoldsLeft, HoldsSolved}
 use Rattle.transition_formula.specs.Order.{first_equation, solution, with_solution}
@@ -26,10 +26,10 @@ use Rattle.transition_formula.specs.Rows.{tidied_rows}
 use Rattle.transition_formula.specs.Rounds.{with_rows, with_solved, losses_with_solved, round_at, solved_first, round, rounds, in_order, solved_answer, Stays}
 use Rattle.transition_formula.proofs.NormalRows.{AreCanonicalEach, tidied-hold, tidied-held, nothing_new}
 use Rattle.transition_formula.proofs.Numbers.{numbered}
-use Rattle.transition_formula.proofs.Renumbered.{renumbered-hold, renumbered-held}
+use Rattle.transition_formula.proofs.RenumberedCases.{renumbered-hold, renumbered-held}
 use Rattle.transition_formula.proofs.Rounding.{AllNumbered, found_at, first_equation-row, tidied-numbered, solved-numbered}
 use Rattle.transition_formula.proofs.Solutions.{found-can_solve, solved-hold, solved-held}
-use Rattle.transition_formula.proofs.Tidied.{tidied-keeps}
+use Rattle.transition_formula.proofs.TidiedRows.{tidied-keeps}
 use Rattle.transition_formula.proofs.Values.{none-of}
 
 -- ---- rows stay canonical

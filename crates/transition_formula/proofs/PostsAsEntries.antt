@@ -29,10 +29,10 @@ use Rattle.transition_formula.specs.Loss.{losses_of}
 use Rattle.transition_formula.specs.Meaning.{Holds, HoldsSome, numbers}
 use Rattle.transition_formula.specs.Posts.{case_with_posts, numbers_at, posts_at}
 use Rattle.transition_formula.specs.Transition.{Transition, every_column, is_below, fits, IsTransition}
-use Rattle.transition_formula.proofs.Covered.{both, both_true, columns_from_test, more_columns, more_columns_of, all_more, test_from_columns}
+use Rattle.transition_formula.proofs.ColumnTests.{both, both_true, columns_from_test, more_columns, more_columns_of, all_more, test_from_columns}
 use Rattle.transition_formula.proofs.Fitting.{below-true, fitting, from_fitting, true-below}
 use Rattle.transition_formula.proofs.SomePosts.{values_there, with_posts-fits}
-use Rattle.transition_formula.proofs.Telling.{Tells, difference_of_polys-tells, lost-some}
+use Rattle.transition_formula.proofs.NotedErrors.{Tells, difference_of_polys-tells, lost-some}
 use Rattle.transition_formula.proofs.Values.{none-of, posts-agree, rows-agree}
 
 -- ---- more entry columns

@@ -14,8 +14,8 @@ use Rattle.transition_formula.specs.Renumbering.{renumbered_case}
 use Rattle.transition_formula.specs.Rows.{tidied_rows}
 use Rattle.transition_formula.specs.Order.{solvable_auxiliary, place_from, first_equation, solution}
 use Rattle.transition_formula.specs.Rounds.{Ordered, after_losses, with_rows, end_of_order, with_solved, losses_with_solved, round_at, solved_first, round, rounds, solved_answer}
-use Rattle.transition_formula.proofs.Covered.{both, both_true}
-use Rattle.transition_formula.proofs.Carried.{tidied-passes, with_solved-numbered}
+use Rattle.transition_formula.proofs.ColumnTests.{both, both_true}
+use Rattle.transition_formula.proofs.CarriedColumns.{tidied-passes, with_solved-numbered}
 
 abbrev origin : ℕ × ℕ
 origin = (0, 0)

@@ -13,7 +13,7 @@ use Rattle.transition_formula.specs.declared.loss.Loss.{Loss}
 use Rattle.transition_formula.specs.Loss.{losses_of}
 use Rattle.transition_formula.specs.Transition.{every_column, every_column_of, is_below}
 use Rattle.transition_formula.specs.Composition.{rows_by, posts_by, sequence_of_cases, after_case, losses_by}
-use Rattle.transition_formula.proofs.Covered.{both, lost}
+use Rattle.transition_formula.proofs.ColumnTests.{both, lost}
 
 -- auxiliaries after those of the first case
 abbrev pub later : Case → Case → List Polynomial

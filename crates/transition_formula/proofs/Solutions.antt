@@ -33,12 +33,12 @@ use Rattle.transition_formula.specs.Meaning.{numbers, HoldsAt, HoldsCase}
 use Rattle.transition_formula.specs.Order.{solves, or_else, first_solved, solvable_auxiliary, place_from, first_equation, solution, with_solution}
 use Rattle.transition_formula.specs.Rounds.{with_rows, with_solved, losses_with_solved}
 use Rattle.transition_formula.specs.Transition.{every_column}
-use Rattle.transition_formula.proofs.Carried.{solution-passes}
-use Rattle.transition_formula.proofs.Covered.{both, test_from_columns}
+use Rattle.transition_formula.proofs.CarriedColumns.{solution-passes}
+use Rattle.transition_formula.proofs.ColumnTests.{both, test_from_columns}
 use Rattle.transition_formula.proofs.Meanings.{not-below}
 use Rattle.transition_formula.proofs.Numbers.{Numbered, numbered}
 use Rattle.transition_formula.proofs.Rounding.{AllNumbered, found_at, test_got, test_removed}
-use Rattle.transition_formula.proofs.Telling.{lost-some, solution-tells, with_solution-tells}
+use Rattle.transition_formula.proofs.NotedErrors.{lost-some, solution-tells, with_solution-tells}
 use Rattle.transition_formula.proofs.Values.{Keeps, lost_values, column-value, value-agrees, none-of, rows_by-hold, rows_by-held, posts_by-values, posts_by-kept}
 
 -- ---- the one term that has the auxiliary

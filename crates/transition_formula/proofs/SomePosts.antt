@@ -12,7 +12,7 @@ use Rattle.linear_terms.specs.Value.{Valuation, value_of}
 use Rattle.transition_formula.specs.Meaning.{numbers, HoldsCase, HoldsSome, Holds}
 use Rattle.transition_formula.specs.Posts.{posts_at, numbers_at, case_with_posts, with_posts, entries_at, case_with_entries, with_entries}
 use Rattle.transition_formula.specs.Transition.{Transition, every_column, is_below, fits, IsTransition}
-use Rattle.transition_formula.proofs.Covered.{both, both_true, test_from_columns}
+use Rattle.transition_formula.proofs.ColumnTests.{both, both_true, test_from_columns}
 use Rattle.transition_formula.proofs.Fitting.{fitting, from_fitting, below-true}
 use Rattle.transition_formula.proofs.Values.{column-value}
 

@@ -18,7 +18,7 @@ use Rattle.linear_terms.proofs.Columns.{each-append}
 use Rattle.linear_terms.proofs.Equal.{poly_eq_decides}
 use Rattle.transition_formula.specs.Meaning.{AreTrueLeft}
 use Rattle.transition_formula.specs.Rows.{alike_by, alike, stronger, with_row, each_once, is_at_most, negated_terms, are_opposite, exclude, can_agree, close, equation_of, with_met, met_rows, opposites_met}
-use Rattle.transition_formula.proofs.Covered.{both, both_true}
+use Rattle.transition_formula.proofs.ColumnTests.{both, both_true}
 use Rattle.transition_formula.proofs.Loops.{row_with, or_right}
 
 -- ---- equal terms

@@ -14,8 +14,8 @@ use Rattle.linear_terms.proofs.Columns.{EachColumn}
 use Rattle.transition_formula.specs.Loss.{answer_of, losses_of}
 use Rattle.transition_formula.specs.Transition.{every_column}
 use Rattle.transition_formula.specs.Composition.{Operation, row_of, rows_by, filled_posts, posts_by}
-use Rattle.transition_formula.proofs.Covered.{both, columns_from_test}
-use Rattle.transition_formula.proofs.Telling.{Tells, lost-some}
+use Rattle.transition_formula.proofs.ColumnTests.{both, columns_from_test}
+use Rattle.transition_formula.proofs.NotedErrors.{Tells, lost-some}
 
 pub column-value : (at : Valuation) (c : Col) → value_of at (column_of c) ≡ at c
 column-value at c = go (at c)

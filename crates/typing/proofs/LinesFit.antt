@@ -35,7 +35,7 @@ use Rattle.typing.specs.Scopes.{callee_of, column_of, if_procedure, if_special, 
 use Rattle.typing.specs.Specials.{special_of}
 use Rattle.typing.specs.Terms.{all_temporaries, count_of, temporaries, term_in, terms_in}
 use Rattle.typing.proofs.Splits.{cons_is_not_nil, first_nil, second_nil, not_when}
-use Rattle.typing.proofs.Known.{EnvFits, IfFits, closed_env, declared_env, meaning_fits, numbered_env, opened_env, placed_env, taken_env, variable_below}
+use Rattle.typing.proofs.Meanings.{EnvFits, IfFits, closed_env, declared_env, meaning_fits, numbered_env, opened_env, placed_env, taken_env, variable_below}
 use Rattle.typing.proofs.Moves.{Moves, line_moves, moves_opened, moves_declared, nameless_length, sum_of_places, sum_of_three, sum_of_four, to_branch, to_second_branch, to_test, to_step, to_body, to_first_body, to_last_test, to_last_step}
 use Rattle.typing.proofs.TermsFit.{all_calls_fit, arguments_fit, both, callee_true, calls_fit, code_append, code_push, is_at_most, is_below, left_of, may_count, no_more, put_fits, right_of, term_below, term_operators, terms_count}
 

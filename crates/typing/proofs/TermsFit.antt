@@ -27,7 +27,7 @@ use Rattle.syntax_tree.specs.SourceOperators.{all_source_operators, source_opera
 use Rattle.typing.specs.Scopes.{callee_of, column_of}
 use Rattle.typing.specs.Terms.{all_temporaries, count_of, temporaries, term_in, terms_in}
 use Rattle.typing.proofs.Splits.{cons_is_not_nil, first_nil, second_nil, not_when}
-use Rattle.typing.proofs.Known.{CalleeFits, EnvFits, IsKnown, call_known, taken_env, variable_below}
+use Rattle.typing.proofs.Meanings.{CalleeFits, EnvFits, IsKnown, call_known, taken_env, variable_below}
 
 -- ---- tests
 

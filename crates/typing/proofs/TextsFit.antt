@@ -31,12 +31,12 @@ use Rattle.typing.specs.Operators.{items_have_few}
 use Rattle.typing.specs.Scopes.{Scope}
 use Rattle.typing.specs.Specials.{is_main}
 use Rattle.typing.specs.Texts.{beginning, body_columns, body_env, count_globals, declarations, param_column, with_params}
-use Rattle.typing.proofs.Answered.{answered}
+use Rattle.typing.proofs.Outcomes.{answered}
 use Rattle.typing.proofs.Splits.{first_nil, second_nil, not_when}
 use Rattle.typing.proofs.Moves.{Moves, moves_as, moves_on, moves_self, moves_declared, lines_move}
 use Rattle.typing.proofs.Within.{IsWithin, declared_within, lines_within}
 use Rattle.typing.proofs.Numbers.{listed, listed_then, lines_listed}
-use Rattle.typing.proofs.Known.{EnvFits, ScopeFits, declared_env}
+use Rattle.typing.proofs.Meanings.{EnvFits, ScopeFits, declared_env}
 use Rattle.typing.proofs.TermsFit.{left_of, no_more, right_of, was_not}
 use Rattle.typing.proofs.LinesFit.{AgreesBy, agrees_at, lines_fit, true_is_not_false}
 

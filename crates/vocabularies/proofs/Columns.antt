@@ -13,7 +13,7 @@ use Rattle.linear_terms.specs.declared.col.Col.{Col}
 use Rattle.linear_terms.specs.declared.col.Col.TheVariants.{At, Aux}
 use Rattle.linear_terms.specs.Polynomial.{Polynomial}
 use Rattle.transition_formula.specs.Transition.{every_column, is_below}
-use Rattle.transition_formula.proofs.Covered.{columns_from_test}
+use Rattle.transition_formula.proofs.ColumnTests.{columns_from_test}
 use Rattle.transition_formula.proofs.Fitting.{below-true, true-below}
 use Rattle.polyhedra.specs.Vocabulary.{Vocabulary, IsVocabulary, IsDirectionOver}
 use Rattle.syntax_tree.specs.declared.program.Column.{Column}

@@ -1,4 +1,4 @@
-ghost use Rattle.std.specs.Prelude.{◌≡◌, ◌<◌, [], ◌∷◌, Some, length, map, slice_get, option_to_list, IfOk, OnOk};
+ghost use Rattle.std.specs.Prelude.{◌≡◌, ◌<◌, [], ◌∷◌, Some, length, map, option_to_list, IfOk, OnOk};
 ghost use Rattle.std.specs.List.{list_any};
 ghost use Rattle.linear_terms.specs.Equality.{poly_eq};
 ghost use Rattle.syntax_tree.specs.Code.{code_of, statement_of};
@@ -6,6 +6,7 @@ ghost use Rattle.syntax_tree.specs.Term.{term_of};
 ghost use Rattle.syntax_tree.specs.declared.program.Proc.{Proc};
 ghost use Rattle.vocabularies.specs.Harvest.{compared_terms, compared_each, compared_by, compared_in, compared_term, most_terms, harvest_of};
 ghost use Rattle.vocabularies.specs.Room.{with_terms};
+ghost use Rattle.vocabularies.specs.Procs.{IsProcOf};
 
 use crate::terms::compared_term;
 use items::Items;
@@ -22,7 +23,7 @@ const MOST_TERMS: usize = 32;
 /// bits or passes degree 4 has none.
 pub fn harvest(alloc: Global, program: &Program, proc: u32) -> Result<Items<Poly>, AllocError>
     requires { proc < length program.now.procs }
-    ensures { (p : Proc) → slice_get program.now.procs proc ≡ Some p
+    ensures { (p : Proc) → IsProcOf program.now proc p
         → IfOk result (λ terms. terms ≡ harvest_of p.body) }
 {
     body_harvest(

@@ -1,10 +1,11 @@
-ghost use Rattle.std.specs.Prelude.{◌≡◌, ◌+◌, ◌++◌, ◌∷◌, [], ◌<◌, ◌≤◌, ◌^◌, List, Some, length, slice_get, IfOk, OnOk};
+ghost use Rattle.std.specs.Prelude.{◌≡◌, ◌+◌, ◌++◌, ◌∷◌, [], ◌<◌, ◌≤◌, ◌^◌, List, length, IfOk, OnOk};
 ghost use Rattle.std.specs.List.{AllByRecursion, range_with_len};
 ghost use Rattle.polyhedra.specs.Vocabulary.{IsDirectionOver, IsVocabulary};
 ghost use Rattle.syntax_tree.specs.WellFormed.{IsWellFormed, IsProcFit};
 ghost use Rattle.syntax_tree.specs.declared.program.Proc.{Proc as Procedure};
 ghost use Rattle.vocabularies.specs.Ends.{entry_width, exit_width, value_width, named_columns_from, named_columns_of, terms_below, plain_vocabulary, full_of, entry_of, pair_of, exit_of, start_of};
 ghost use Rattle.vocabularies.specs.Harvest.{harvest_of};
+ghost use Rattle.vocabularies.specs.Procs.{IsProcOf};
 
 use crate::comparisons::body_harvest;
 use items::Items;
@@ -89,7 +90,7 @@ fn plain_vocabulary(
 pub fn full(alloc: Global, program: &Program, proc: u32) -> Result<Vocabulary, AllocError>
     requires formed { IsWellFormed program.now }
     requires there { proc < length program.now.procs }
-    ensures { (p : Procedure) → slice_get program.now.procs proc ≡ Some p
+    ensures { (p : Procedure) → IsProcOf program.now proc p
         → IfOk result (λ voc. voc ≡ full_of program.now p) }
 {
     full_of(alloc, program, &program.procs.as_slice()[proc as usize])
@@ -133,7 +134,7 @@ fn ends_of(
 pub fn entry(alloc: Global, program: &Program, proc: u32) -> Result<Vocabulary, AllocError>
     requires formed { IsWellFormed program.now }
     requires there { proc < length program.now.procs }
-    ensures { (p : Procedure) → slice_get program.now.procs proc ≡ Some p
+    ensures { (p : Procedure) → IsProcOf program.now proc p
         → IfOk result (λ voc. voc ≡ entry_of program.now p) }
 {
     entry_of(alloc, program, &program.procs.as_slice()[proc as usize])
@@ -154,7 +155,7 @@ fn entry_of(alloc: Global, program: &Program, p: &Proc) -> Result<Vocabulary, Al
 pub fn pair(alloc: Global, program: &Program, proc: u32) -> Result<Vocabulary, AllocError>
     requires formed { IsWellFormed program.now }
     requires there { proc < length program.now.procs }
-    ensures { (p : Procedure) → slice_get program.now.procs proc ≡ Some p
+    ensures { (p : Procedure) → IsProcOf program.now proc p
         → IfOk result (λ voc. voc ≡ pair_of program.now p) }
 {
     pair_of(alloc, program, &program.procs.as_slice()[proc as usize])
@@ -176,7 +177,7 @@ fn pair_of(alloc: Global, program: &Program, p: &Proc) -> Result<Vocabulary, All
 pub fn exit(alloc: Global, program: &Program, proc: u32) -> Result<Vocabulary, AllocError>
     requires formed { IsWellFormed program.now }
     requires there { proc < length program.now.procs }
-    ensures { (p : Procedure) → slice_get program.now.procs proc ≡ Some p
+    ensures { (p : Procedure) → IsProcOf program.now proc p
         → IfOk result (λ voc. voc ≡ exit_of program.now p) }
 {
     exit_of(alloc, program, &program.procs.as_slice()[proc as usize])

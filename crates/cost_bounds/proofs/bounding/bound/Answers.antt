@@ -4,7 +4,7 @@ use Rattle.posing.specs.declared.error.WorkError.{WorkError}
 use Rattle.cost_bounds.specs.declared.cost.Cost.{Cost}
 use Rattle.cost_bounds.specs.Says.{IsMetByCase, Says}
 use Rattle.posing.specs.Follows.{IsGood}
-use Rattle.posing.proofs.Under.{under-result}
+use Rattle.posing.proofs.UnderAnswers.{under-result}
 use Rattle.cost_bounds.proofs.Soundness.{IsSound, case_cost-sound}
 use Rattle.cost_bounds.proofs.bounding.bound.Goals as goal
 

@@ -5,7 +5,7 @@ use Rattle.farkas_check.specs.Relations.{have_equally_many}
 use Rattle.posing.specs.Logs.{loss_notes}
 use Rattle.polyhedra.specs.Changes.{changes_in, modified_variables}
 use Rattle.polyhedra.proofs.Coverage.{posts-long}
-use Rattle.facet_hull.specs.Facets.{outcome, IsExact, Rise}
+use Rattle.facet_hull.specs.Facets.{outcome, IsOfHull, Rise}
 use Rattle.facet_hull.proofs.Outcomes.{modified-below, modified-rises, cases-equally_many}
 use Rattle.facet_hull.proofs.finding.facets.Goals as goal
 
@@ -33,8 +33,8 @@ returns-clause-value c =
     let cases = c.in_ok-cases.ensures ∙ (λ i. map (changes_in true (variables i)) (c.cases.ensures.cases i)) in
     subst (λ found. IfOk c.outcome.result (λ made. made ≡ found)) (λ i. outcome (variables i) (lost i) (cases i)) c.outcome.ensures.value
 
-pub returns-clause-exact : goal.returns-clause-exact
-returns-clause-exact c =
+pub returns-clause-hull : goal.returns-clause-hull
+returns-clause-hull c =
     let variables = c.as_slice-modified.ensures ∙ c.in_ok-movement.ensures.modified in
     let cases = c.in_ok-cases.ensures ∙ (λ i. map (changes_in true (variables i)) (c.cases.ensures.cases i)) in
-    subst (λ found. found) (λ i. IfOk c.outcome.result (λ made. IsExact (variables i) (cases i) made)) c.outcome.ensures.exact
+    subst (λ found. found) (λ i. IfOk c.outcome.result (λ made. IsOfHull (variables i) (cases i) made)) c.outcome.ensures.hull

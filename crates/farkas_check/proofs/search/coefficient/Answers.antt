@@ -1,7 +1,7 @@
 use Rattle.std.proofs.Common.{◌≡◌, true, rules}
 use Rattle.std.specs.Ordering.{eq_by_cmp}
 use Rattle.linear_terms.specs.Mono.{mono_cmp}
-use Rattle.farkas_check.proofs.Ordered.{coefficient_own}
+use Rattle.farkas_check.proofs.OrderedTerms.{coefficient_own}
 use Rattle.farkas_check.proofs.search.coefficient.Goals as goal
 
 pub returns-then-eq : goal.returns-then-eq

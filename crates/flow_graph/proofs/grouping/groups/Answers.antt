@@ -2,7 +2,7 @@ use Rattle.std.proofs.Common.{ℕ, List, length, subst, sym, ◌∙◌}
 use Rattle.flow_graph.specs.Components.{AreComponents}
 use Rattle.flow_graph.specs.Plans.{AreFilled, call_lists}
 use Rattle.flow_graph.specs.Search.{AreNumbers}
-use Rattle.flow_graph.proofs.Planned.{are_numbers, going_first, is_plan}
+use Rattle.flow_graph.proofs.GroupOrders.{are_numbers, going_first, is_plan}
 use Rattle.flow_graph.proofs.grouping.groups.Goals as goal
 
 pub strong_components-requires-clause-numbers : goal.strong_components-requires-clause-numbers

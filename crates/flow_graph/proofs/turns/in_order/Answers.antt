@@ -1,5 +1,5 @@
 use Rattle.std.proofs.Common.{◌∙◌}
-use Rattle.flow_graph.proofs.Planned.{none_came}
+use Rattle.flow_graph.proofs.GroupOrders.{none_came}
 use Rattle.flow_graph.proofs.turns.in_order.Goals as goal
 
 pub groups_in_order-requires-clause-none : goal.groups_in_order-requires-clause-none

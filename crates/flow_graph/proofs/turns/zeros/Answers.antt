@@ -1,5 +1,5 @@
 use Rattle.std.proofs.Common.{ℕ, List, [], ◌∷◌, ◌++◌, ap, ◌∙◌}
-use Rattle.flow_graph.proofs.Planned.{zeros_more}
+use Rattle.flow_graph.proofs.GroupOrders.{zeros_more}
 use Rattle.flow_graph.proofs.turns.zeros.Goals as goal
 
 pub loop-place-preserved : goal.loop-place-preserved

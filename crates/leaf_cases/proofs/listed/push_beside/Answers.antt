@@ -2,7 +2,7 @@ use Rattle.std.proofs.Common.{◌^◌}
 use Rattle.std.specs.Prelude.{nat_lt}
 use Rattle.linear_terms.specs.Auxiliaries.{is_numbered}
 use Rattle.transition_formula.specs.Transition.{every_column_of}
-use Rattle.transition_formula.proofs.Covered.{both}
+use Rattle.transition_formula.proofs.ColumnTests.{both}
 use Rattle.transition_formula.proofs.Loops.{test_at}
 use Rattle.leaf_cases.specs.Listed.{is_ready}
 use Rattle.leaf_cases.proofs.listed.push_beside.Goals as goal

@@ -1,7 +1,7 @@
 use Rattle.std.proofs.Common.{sym, ◌∙◌, refl, arith, get_or, ◌+◌}
 use Rattle.linear_terms.specs.declared.col.Col.TheVariants.{At}
 use Rattle.std.proofs.lemmas.List.{drop-set-lt}
-use Rattle.linear_terms.proofs.Placed.{so_far-kept, so_far-swapped}
+use Rattle.linear_terms.proofs.Placements.{so_far-kept, so_far-swapped}
 use Rattle.linear_terms.proofs.mono.place.Goals as goal
 use Rattle.linear_terms.proofs.mono.place.Goals.{then-is_before, else-is_before}
 

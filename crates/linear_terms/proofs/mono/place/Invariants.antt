@@ -1,7 +1,7 @@
 use Rattle.std.proofs.Common.{◌≡◌, ℕ, ◌+◌, List, length, take, drop}
 use Rattle.linear_terms.specs.declared.col.Col.{Col}
 use Rattle.linear_terms.specs.Mono.{with_column}
-use Rattle.linear_terms.proofs.Placed.{so_far}
+use Rattle.linear_terms.proofs.Placements.{so_far}
 use Rattle.linear_terms.proofs.mono.place.Given as goal
 
 pub record SoFar (before cells : List Col) (i len : ℕ) (col carried : Col) : Type 0 where

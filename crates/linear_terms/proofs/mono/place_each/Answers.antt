@@ -1,7 +1,7 @@
 use Rattle.std.proofs.Common.{◌≡◌, ◌+◌, take, get_or, length, sym, ap, ◌∙◌, arith}
 use Rattle.linear_terms.specs.declared.col.Col.TheVariants.{At}
 use Rattle.linear_terms.specs.Mono.{with_column}
-use Rattle.linear_terms.proofs.Placed.{fold_next, drop_later}
+use Rattle.linear_terms.proofs.Placements.{fold_next, drop_later}
 use Rattle.linear_terms.proofs.mono.place_each.Goals as goal
 
 pub loop-i-preserved : goal.loop-i-preserved

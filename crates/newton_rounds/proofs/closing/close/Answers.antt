@@ -1,5 +1,5 @@
 use Rattle.newton_rounds.specs.Claims.{AreMetMembers}
-use Rattle.posing.proofs.Under.{passing-result}
+use Rattle.posing.proofs.UnderAnswers.{passing-result}
 use Rattle.newton_rounds.proofs.SummariesMet.{summaries-met}
 use Rattle.newton_rounds.proofs.closing.close.Goals as goal
 

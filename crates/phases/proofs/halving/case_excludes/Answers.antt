@@ -9,7 +9,7 @@ use Rattle.linear_terms.specs.Polynomial.{Polynomial}
 use Rattle.linear_terms.specs.Replacement.{HasPoly, put_in}
 use Rattle.linear_terms.specs.TermError.{cause}
 use Rattle.transition_formula.specs.Transition.{IsSolvable}
-use Rattle.transition_formula.proofs.Covered.{every_column-Decides}
+use Rattle.transition_formula.proofs.ColumnTests.{every_column-Decides}
 use Rattle.phases.specs.Phases.{case_excludes, case_where}
 use Rattle.phases.specs.Words.{IsExcludable}
 use Rattle.phases.proofs.Exclusions.{excluded-solvable}

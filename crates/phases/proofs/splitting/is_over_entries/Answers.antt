@@ -1,4 +1,4 @@
-use Rattle.transition_formula.proofs.Covered.{every_column_decides}
+use Rattle.transition_formula.proofs.ColumnTests.{every_column_decides}
 use Rattle.phases.proofs.splitting.is_over_entries.Goals as goal
 
 pub returns : goal.returns

@@ -1,7 +1,7 @@
 use Rattle.std.proofs.Common.{◌≡◌, All, length, map, sym, subst, ap, ◌∙◌}
 use Rattle.linear_terms.specs.Replacement.{IsBelow}
 use Rattle.recurrence.specs.Words.{AreCovered}
-use Rattle.recurrence.specs.Products.{sequence_of, turned, known_products}
+use Rattle.recurrence.specs.Products.{sequence_of, columns_after_turn, known_products}
 use Rattle.recurrence.proofs.KnownCoverage.{turned-covered, products-covered}
 use Rattle.recurrence.proofs.growing.sequences.Goals as goal
 
@@ -13,4 +13,4 @@ sequences_of-requires-clause-below c =
     let next = c.as_slice.ensures ∙ c.in_ok-next.ensures in
     let monos = c.as_slice-2.ensures ∙ c.in_ok-monos.ensures in
     subst (λ ns. All (λ m. All (IsBelow (length ns) 0) m) c.as_slice-2.result.now) (sym next)
-    (subst (λ ms. All (λ m. All (IsBelow (length (turned c.args.known.now)) 0) m) ms) (sym monos) (products-covered c.args.known.now c.args.products.now))
+    (subst (λ ms. All (λ m. All (IsBelow (length (columns_after_turn c.args.known.now)) 0) m) ms) (sym monos) (products-covered c.args.known.now c.args.products.now))

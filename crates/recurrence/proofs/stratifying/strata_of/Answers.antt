@@ -3,9 +3,9 @@ use Rattle.std.specs.Prelude.{Option, ◌&&◌, unwrap_or}
 use Rattle.linear_terms.specs.Polynomial.{Polynomial}
 use Rattle.posing.proofs.Following.{stops}
 use Rattle.posing.proofs.Steps.{value_first, error_first, at_end}
-use Rattle.recurrence.specs.Products.{unchanged, with_term, with_terms}
+use Rattle.recurrence.specs.Products.{unmodified_columns, with_term, with_terms}
 use Rattle.recurrence.specs.Strata.{over, stratum_if, is_short, has_grown, strata}
-use Rattle.recurrence.specs.Words.{IsClosed, unchanged_by}
+use Rattle.recurrence.specs.Words.{IsClosed, unmodified_columns_by}
 use Rattle.recurrence.proofs.RisingNumbers.{unchanged-same}
 use Rattle.recurrence.proofs.SolvedColumns.{terms-closed, unchanged-closed}
 use Rattle.recurrence.proofs.stratifying.strata_of.Goals as goal
@@ -18,15 +18,15 @@ next_stratum-requires g c =
     let body = c.args.body.now in
     let ms = c.args.products.now in
     let moving = c.as_slice-moving.ensures ∙ c.requires.movement.moving in
-    let none : c.in_ok-unsolved.unsolved ≡ unchanged body ms =
-    c.in_ok-unsolved.ensures ∙ (λ i. unchanged_by ((c.as_slice.ensures ∙ c.requires.movement.modified) i) (c.to.ensures i) ms) ∙ unchanged-same body ms in
-    let some : c.in_ok-known.known ≡ with_terms body (unchanged body ms) c.in_ok-first.first =
+    let none : c.in_ok-unsolved.unsolved ≡ unmodified_columns body ms =
+    c.in_ok-unsolved.ensures ∙ (λ i. unmodified_columns_by ((c.as_slice.ensures ∙ c.requires.movement.modified) i) (c.to.ensures i) ms) ∙ unchanged-same body ms in
+    let some : c.in_ok-known.known ≡ with_terms body (unmodified_columns body ms) c.in_ok-first.first =
     c.in_ok-known.ensures ∙ (λ i. fold (with_term (moving i)) (none i) (unwrap_or c.in_ok-first.first [])) in
-    let solved : c.as_slice-solved.result.now ≡ with_terms body (unchanged body ms) c.in_ok-first.first = c.as_slice-solved.ensures ∙ some in
+    let solved : c.as_slice-solved.result.now ≡ with_terms body (unmodified_columns body ms) c.in_ok-first.first = c.as_slice-solved.ensures ∙ some in
     record {
       ends = c.requires.ends;
       movement = c.requires.movement;
-      closed = subst IsClosed (sym solved) (terms-closed body (unchanged body ms) c.in_ok-first.first (unchanged-closed body ms));
+      closed = subst IsClosed (sym solved) (terms-closed body (unmodified_columns body ms) c.in_ok-first.first (unchanged-closed body ms));
     }
 
 pub next_stratum-requires-2 : goal.next_stratum-requires-2
@@ -34,18 +34,18 @@ next_stratum-requires-2 g c =
     let body = c.args.body.now in
     let ms = c.args.products.now in
     let moving = c.as_slice-moving.ensures ∙ c.requires.movement.moving in
-    let none : c.in_ok-unsolved.unsolved ≡ unchanged body ms =
-    c.in_ok-unsolved.ensures ∙ (λ i. unchanged_by ((c.as_slice.ensures ∙ c.requires.movement.modified) i) (c.to.ensures i) ms) ∙ unchanged-same body ms in
-    let some : c.in_ok-known.known ≡ with_terms body (unchanged body ms) c.in_ok-first.first =
+    let none : c.in_ok-unsolved.unsolved ≡ unmodified_columns body ms =
+    c.in_ok-unsolved.ensures ∙ (λ i. unmodified_columns_by ((c.as_slice.ensures ∙ c.requires.movement.modified) i) (c.to.ensures i) ms) ∙ unchanged-same body ms in
+    let some : c.in_ok-known.known ≡ with_terms body (unmodified_columns body ms) c.in_ok-first.first =
     c.in_ok-known.ensures ∙ (λ i. fold (with_term (moving i)) (none i) (unwrap_or c.in_ok-first.first [])) in
-    let solved : c.as_slice-solved.result.now ≡ with_terms body (unchanged body ms) c.in_ok-first.first = c.as_slice-solved.ensures ∙ some in
-    let all : c.as_slice-all_solved.result.now ≡ with_terms body (with_terms body (unchanged body ms) c.in_ok-first.first) c.in_ok-second.second =
+    let solved : c.as_slice-solved.result.now ≡ with_terms body (unmodified_columns body ms) c.in_ok-first.first = c.as_slice-solved.ensures ∙ some in
+    let all : c.as_slice-all_solved.result.now ≡ with_terms body (with_terms body (unmodified_columns body ms) c.in_ok-first.first) c.in_ok-second.second =
     c.as_slice-all_solved.ensures ∙ c.in_ok-more.ensures ∙ (λ i. fold (with_term (moving i)) (some i) (unwrap_or c.in_ok-second.second [])) in
     record {
       ends = c.requires.ends;
       movement = c.requires.movement;
       closed = subst IsClosed (sym all)
-          (terms-closed body (with_terms body (unchanged body ms) c.in_ok-first.first) c.in_ok-second.second (terms-closed body (unchanged body ms) c.in_ok-first.first (unchanged-closed body ms)));
+          (terms-closed body (with_terms body (unmodified_columns body ms) c.in_ok-first.first) c.in_ok-second.second (terms-closed body (unmodified_columns body ms) c.in_ok-first.first (unchanged-closed body ms)));
     }
 
 pub returns-in_err-unsolved : goal.returns-in_err-unsolved
@@ -65,11 +65,11 @@ returns-in_err-second g c =
     let body = c.args.body.now in
     let ms = c.args.products.now in
     let moving = c.as_slice-moving.ensures ∙ c.requires.movement.moving in
-    let none : c.in_ok-unsolved.unsolved ≡ unchanged body ms =
-    c.in_ok-unsolved.ensures ∙ (λ i. unchanged_by ((c.as_slice.ensures ∙ c.requires.movement.modified) i) (c.to.ensures i) ms) ∙ unchanged-same body ms in
-    let some : c.in_ok-known.known ≡ with_terms body (unchanged body ms) c.in_ok-first.first =
+    let none : c.in_ok-unsolved.unsolved ≡ unmodified_columns body ms =
+    c.in_ok-unsolved.ensures ∙ (λ i. unmodified_columns_by ((c.as_slice.ensures ∙ c.requires.movement.modified) i) (c.to.ensures i) ms) ∙ unchanged-same body ms in
+    let some : c.in_ok-known.known ≡ with_terms body (unmodified_columns body ms) c.in_ok-first.first =
     c.in_ok-known.ensures ∙ (λ i. fold (with_term (moving i)) (none i) (unwrap_or c.in_ok-first.first [])) in
-    let solved : c.as_slice-solved.result.now ≡ with_terms body (unchanged body ms) c.in_ok-first.first = c.as_slice-solved.ensures ∙ some in
+    let solved : c.as_slice-solved.result.now ≡ with_terms body (unmodified_columns body ms) c.in_ok-first.first = c.as_slice-solved.ensures ∙ some in
     let most = c.len-most.ensures ∙ ap length c.requires.movement.modified in
     let asked = c.is_short-asked.ensures ∙ (λ i. is_short (most i) c.in_ok-first.first) in
     value_first _ c.in_ok-first.ensures refl (error_first _ c.in_err-second.ensures (λ i. stratum_if (asked i) body (over body ms (solved i) c.in_ok-first.first)) c.from_residual-in_err-second.ensures.1)
@@ -80,11 +80,11 @@ returns-in_err-more g c =
     let body = c.args.body.now in
     let ms = c.args.products.now in
     let moving = c.as_slice-moving.ensures ∙ c.requires.movement.moving in
-    let none : c.in_ok-unsolved.unsolved ≡ unchanged body ms =
-    c.in_ok-unsolved.ensures ∙ (λ i. unchanged_by ((c.as_slice.ensures ∙ c.requires.movement.modified) i) (c.to.ensures i) ms) ∙ unchanged-same body ms in
-    let some : c.in_ok-known.known ≡ with_terms body (unchanged body ms) c.in_ok-first.first =
+    let none : c.in_ok-unsolved.unsolved ≡ unmodified_columns body ms =
+    c.in_ok-unsolved.ensures ∙ (λ i. unmodified_columns_by ((c.as_slice.ensures ∙ c.requires.movement.modified) i) (c.to.ensures i) ms) ∙ unchanged-same body ms in
+    let some : c.in_ok-known.known ≡ with_terms body (unmodified_columns body ms) c.in_ok-first.first =
     c.in_ok-known.ensures ∙ (λ i. fold (with_term (moving i)) (none i) (unwrap_or c.in_ok-first.first [])) in
-    let solved : c.as_slice-solved.result.now ≡ with_terms body (unchanged body ms) c.in_ok-first.first = c.as_slice-solved.ensures ∙ some in
+    let solved : c.as_slice-solved.result.now ≡ with_terms body (unmodified_columns body ms) c.in_ok-first.first = c.as_slice-solved.ensures ∙ some in
     let most = c.len-most.ensures ∙ ap length c.requires.movement.modified in
     let asked = c.is_short-asked.ensures ∙ (λ i. is_short (most i) c.in_ok-first.first) in
     value_first _ c.in_ok-first.ensures refl (value_first _ c.in_ok-second.ensures (λ i. stratum_if (asked i) body (over body ms (solved i) c.in_ok-first.first)) (stops _ _ _ _ _ _ refl c.from_residual-in_err-more.ensures.1))
@@ -95,12 +95,12 @@ returns-in_err-third g c =
     let body = c.args.body.now in
     let ms = c.args.products.now in
     let moving = c.as_slice-moving.ensures ∙ c.requires.movement.moving in
-    let none : c.in_ok-unsolved.unsolved ≡ unchanged body ms =
-    c.in_ok-unsolved.ensures ∙ (λ i. unchanged_by ((c.as_slice.ensures ∙ c.requires.movement.modified) i) (c.to.ensures i) ms) ∙ unchanged-same body ms in
-    let some : c.in_ok-known.known ≡ with_terms body (unchanged body ms) c.in_ok-first.first =
+    let none : c.in_ok-unsolved.unsolved ≡ unmodified_columns body ms =
+    c.in_ok-unsolved.ensures ∙ (λ i. unmodified_columns_by ((c.as_slice.ensures ∙ c.requires.movement.modified) i) (c.to.ensures i) ms) ∙ unchanged-same body ms in
+    let some : c.in_ok-known.known ≡ with_terms body (unmodified_columns body ms) c.in_ok-first.first =
     c.in_ok-known.ensures ∙ (λ i. fold (with_term (moving i)) (none i) (unwrap_or c.in_ok-first.first [])) in
-    let solved : c.as_slice-solved.result.now ≡ with_terms body (unchanged body ms) c.in_ok-first.first = c.as_slice-solved.ensures ∙ some in
-    let all : c.as_slice-all_solved.result.now ≡ with_terms body (with_terms body (unchanged body ms) c.in_ok-first.first) c.in_ok-second.second =
+    let solved : c.as_slice-solved.result.now ≡ with_terms body (unmodified_columns body ms) c.in_ok-first.first = c.as_slice-solved.ensures ∙ some in
+    let all : c.as_slice-all_solved.result.now ≡ with_terms body (with_terms body (unmodified_columns body ms) c.in_ok-first.first) c.in_ok-second.second =
     c.as_slice-all_solved.ensures ∙ c.in_ok-more.ensures ∙ (λ i. fold (with_term (moving i)) (some i) (unwrap_or c.in_ok-second.second [])) in
     let most = c.len-most.ensures ∙ ap length c.requires.movement.modified in
     let asked = c.is_short-asked.ensures ∙ (λ i. is_short (most i) c.in_ok-first.first) in
@@ -115,12 +115,12 @@ returns g c =
     let body = c.args.body.now in
     let ms = c.args.products.now in
     let moving = c.as_slice-moving.ensures ∙ c.requires.movement.moving in
-    let none : c.in_ok-unsolved.unsolved ≡ unchanged body ms =
-    c.in_ok-unsolved.ensures ∙ (λ i. unchanged_by ((c.as_slice.ensures ∙ c.requires.movement.modified) i) (c.to.ensures i) ms) ∙ unchanged-same body ms in
-    let some : c.in_ok-known.known ≡ with_terms body (unchanged body ms) c.in_ok-first.first =
+    let none : c.in_ok-unsolved.unsolved ≡ unmodified_columns body ms =
+    c.in_ok-unsolved.ensures ∙ (λ i. unmodified_columns_by ((c.as_slice.ensures ∙ c.requires.movement.modified) i) (c.to.ensures i) ms) ∙ unchanged-same body ms in
+    let some : c.in_ok-known.known ≡ with_terms body (unmodified_columns body ms) c.in_ok-first.first =
     c.in_ok-known.ensures ∙ (λ i. fold (with_term (moving i)) (none i) (unwrap_or c.in_ok-first.first [])) in
-    let solved : c.as_slice-solved.result.now ≡ with_terms body (unchanged body ms) c.in_ok-first.first = c.as_slice-solved.ensures ∙ some in
-    let all : c.as_slice-all_solved.result.now ≡ with_terms body (with_terms body (unchanged body ms) c.in_ok-first.first) c.in_ok-second.second =
+    let solved : c.as_slice-solved.result.now ≡ with_terms body (unmodified_columns body ms) c.in_ok-first.first = c.as_slice-solved.ensures ∙ some in
+    let all : c.as_slice-all_solved.result.now ≡ with_terms body (with_terms body (unmodified_columns body ms) c.in_ok-first.first) c.in_ok-second.second =
     c.as_slice-all_solved.ensures ∙ c.in_ok-more.ensures ∙ (λ i. fold (with_term (moving i)) (some i) (unwrap_or c.in_ok-second.second [])) in
     let most = c.len-most.ensures ∙ ap length c.requires.movement.modified in
     let asked = c.is_short-asked.ensures ∙ (λ i. is_short (most i) c.in_ok-first.first) in

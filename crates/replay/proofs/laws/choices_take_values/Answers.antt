@@ -1,4 +1,4 @@
-use Rattle.replay.proofs.Chosen.{choices_take_values}
+use Rattle.replay.proofs.ChosenExecutions.{choices_take_values}
 use Rattle.replay.proofs.laws.choices_take_values.Goals as goal
 
 pub returns : goal.returns

@@ -1,4 +1,4 @@
-use Rattle.transition_formula.proofs.Covered.{every_column_decides}
+use Rattle.transition_formula.proofs.ColumnTests.{every_column_decides}
 use Rattle.transition_formula.proofs.formula.has_columns_below.Goals as goal
 
 pub returns : goal.returns

@@ -3,7 +3,7 @@ use Rattle.std.specs.Prelude.{IsTrue, ◌==◌}
 use Rattle.transition_formula.specs.Composition.{losses_by}
 use Rattle.transition_formula.specs.Hiding.{hiding, hidden_case}
 use Rattle.transition_formula.specs.Transition.{fits, is_below, every_column_of}
-use Rattle.transition_formula.proofs.Covered.{both}
+use Rattle.transition_formula.proofs.ColumnTests.{both}
 use Rattle.transition_formula.proofs.Loops.{test_at, one_mapped, one_gathered}
 use Rattle.transition_formula.proofs.hiding.hidden_cases.Goals as goal
 

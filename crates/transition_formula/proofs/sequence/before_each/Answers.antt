@@ -2,7 +2,7 @@ use Rattle.std.proofs.Common.{length, sym, subst, ◌∙◌}
 use Rattle.std.specs.Prelude.{IsTrue, ◌==◌}
 use Rattle.transition_formula.specs.Transition.{fits, is_below, every_column_of}
 use Rattle.transition_formula.specs.Composition.{sequence_of_cases, losses_by, after_case}
-use Rattle.transition_formula.proofs.Covered.{both}
+use Rattle.transition_formula.proofs.ColumnTests.{both}
 use Rattle.transition_formula.proofs.Loops.{test_at, one_mapped, one_gathered}
 use Rattle.transition_formula.proofs.sequence.before_each.Goals as goal
 

@@ -1,4 +1,4 @@
-use Rattle.typing.proofs.Answered.{answered, answers}
+use Rattle.typing.proofs.Outcomes.{answered, answers}
 use Rattle.typing.proofs.laws.elaborations_are_answered.Goals as goal
 
 pub returns : goal.returns

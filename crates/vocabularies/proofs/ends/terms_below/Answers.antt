@@ -1,5 +1,5 @@
 use Rattle.std.proofs.Common.{sym, ◌∙◌}
-use Rattle.transition_formula.proofs.Covered.{every_column_decides}
+use Rattle.transition_formula.proofs.ColumnTests.{every_column_decides}
 use Rattle.vocabularies.proofs.Columns.{below-with, below-without}
 use Rattle.vocabularies.proofs.ends.terms_below.Goals as goal
 

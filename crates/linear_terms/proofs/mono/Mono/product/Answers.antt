@@ -3,7 +3,7 @@ use Rattle.std.specs.Prelude.{replicate}
 use Rattle.linear_terms.specs.declared.col.Col.{Col}
 use Rattle.linear_terms.specs.declared.col.Col.TheVariants.{At}
 use Rattle.linear_terms.specs.Mono.{with_column, is_in_order}
-use Rattle.linear_terms.proofs.Placed.{in_order-fold, drop_later, length-front, unused_cells}
+use Rattle.linear_terms.proofs.Placements.{in_order-fold, drop_later, length-front, unused_cells}
 use Rattle.linear_terms.proofs.mono.Mono.product.Goals as goal
 
 pub invariant_of-result : goal.invariant_of-result

@@ -3,7 +3,7 @@ use Rattle.std.specs.Prelude.{slice_index, IsTrue}
 use Rattle.linear_terms.specs.Auxiliaries.{renumbered_column}
 use Rattle.linear_terms.specs.Mono.{is_in_order}
 use Rattle.linear_terms.proofs.Numbering.{mono_numbered}
-use Rattle.linear_terms.proofs.Placed.{length-front, unused_cells}
+use Rattle.linear_terms.proofs.Placements.{length-front, unused_cells}
 use Rattle.linear_terms.proofs.mono.Mono.with_numbers.Goals as goal
 
 pub invariant_of-result : goal.invariant_of-result

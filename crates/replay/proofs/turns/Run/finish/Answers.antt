@@ -4,7 +4,7 @@ use Rattle.execution.specs.Chosen.{cause, chosen_step}
 use Rattle.execution.specs.Interpreter.{machine_config}
 use Rattle.replay.specs.Chosen.{chosen}
 use Rattle.replay.specs.Follow.{reached_state}
-use Rattle.replay.proofs.Chosen.{chosen-can, choices_take_values}
+use Rattle.replay.proofs.ChosenExecutions.{chosen-can, choices_take_values}
 use Rattle.replay.proofs.Traces.{last-end, spent-trace, stopped-end}
 use Rattle.replay.proofs.turns.Run.finish.Goals as goal
 

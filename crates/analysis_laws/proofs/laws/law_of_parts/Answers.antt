@@ -1,5 +1,0 @@
-use Rattle.analysis_laws.proofs.GroupParts.{parts_are_met}
-use Rattle.analysis_laws.proofs.laws.law_of_parts.Goals as goal
-
-pub returns : goal.returns
-returns c = parts_are_met

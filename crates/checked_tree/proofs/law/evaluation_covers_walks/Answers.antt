@@ -1,0 +1,5 @@
+use Rattle.checked_tree.proofs.Whole.{evaluation-holds, evaluation-fits}
+use Rattle.checked_tree.proofs.law.evaluation_covers_walks.Goals as goal
+
+pub returns : goal.returns
+returns c = record { holds = evaluation-holds; fits = evaluation-fits }

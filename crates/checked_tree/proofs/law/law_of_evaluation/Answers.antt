@@ -1,5 +1,0 @@
-use Rattle.checked_tree.proofs.Whole.{evaluation-holds, evaluation-fits}
-use Rattle.checked_tree.proofs.law.law_of_evaluation.Goals as goal
-
-pub returns : goal.returns
-returns c = record { holds = evaluation-holds; fits = evaluation-fits }

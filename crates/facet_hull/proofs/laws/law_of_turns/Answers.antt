@@ -1,5 +1,0 @@
-use Rattle.facet_hull.proofs.Turns.{relatively_complete}
-use Rattle.facet_hull.proofs.laws.law_of_turns.Goals as goal
-
-pub returns : goal.returns
-returns c = relatively_complete

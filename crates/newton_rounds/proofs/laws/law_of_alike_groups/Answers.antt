@@ -1,5 +1,0 @@
-use Rattle.newton_rounds.proofs.Alike.{alike_groups_are_one}
-use Rattle.newton_rounds.proofs.laws.law_of_alike_groups.Goals as goal
-
-pub returns : goal.returns
-returns c = alike_groups_are_one

@@ -1,5 +1,0 @@
-use Rattle.phases.proofs.Whole.{phases-fit, phases-hold}
-use Rattle.phases.proofs.law.law_of_phases.Goals as goal
-
-pub returns : goal.returns
-returns c = record { holds = phases-hold; fits = phases-fit }
