@@ -1,23 +1,25 @@
 #!/usr/bin/env python3
 """Looks for the exact hulls of made bodies of loops by the crates without a proof, and compares what is found.
 
-usage: compare_facets.py MODEL_FOLDER [COUNT] [SEED]
+usage: compare_facets.py MODEL_FOLDER [COUNT] [SEED] [PROGRAM]
+       compare_facets.py --tree FOLDER
 
-What has to come is evaluated here from the stated definitions, step by step in 128 bits. Where no step of the search leaves them, an
+With PROGRAM, which was built of the tree that --tree writes, bodies are given to that, and the slowest body is timed. What has to come is evaluated here from the stated definitions, step by step in 128 bits. Where no step of the search leaves them, an
 independent model of the rules has to agree with that, which knows no bits; a limit of the search is compared with the evaluation alone.
-A body in three is too much by its counts or has a change that leaves 128 bits. It takes some minutes to compile the crates.
+A body in three is too much by its counts or has a change that leaves 128 bits. Without PROGRAM it takes some minutes to compile the crates.
 """
-import os, random, shutil, subprocess, sys, tempfile
+import os, random, resource, shutil, subprocess, sys, tempfile
 from math import gcd
 
 HERE = os.path.dirname(os.path.abspath(__file__))
 TOP = os.path.dirname(HERE)
-sys.path.insert(0, sys.argv[1])
-from facets import normals as model  # the model
-from formula import Case, Formula
-from linear import AT_MOST, EQUAL, Row, add, aux, make, show
-from polyhedra import Changes
-from questions import columns_of
+if len(sys.argv) > 1 and sys.argv[1] != "--tree":
+    sys.path.insert(0, sys.argv[1])
+    from facets import normals as model  # the model
+    from formula import Case, Formula
+    from linear import AT_MOST, EQUAL, Row, add, aux, make, show
+    from polyhedra import Changes
+    from questions import columns_of
 
 LEAST, MOST = (-2 ** 127, 2 ** 127 - 1)
 
@@ -324,9 +326,9 @@ def bodies(count, rng):
 
 
 def tree(work):
-    """A tree of the crates that the program uses, and the program."""
+    """A tree of the program of `test_hulls`, which reads bodies and prints what is found of them, and of the crates that it uses."""
     subprocess.run(["git", "init", "-q", work], check=True)
-    lines, uses = [], open(f"{HERE}/facets/uses").read().split()
+    lines = []
 
     def copy(name):
         if os.path.isdir(f"{TOP}/crates/{name}") and not os.path.exists(f"{work}/crates/{name}"):
@@ -336,20 +338,46 @@ def tree(work):
             for low in line.split(":")[1].split():
                 copy(low)
 
-    for name in uses:
-        copy(name)
-    open(f"{work}/crates.txt", "w").write("".join(lines) + "bench_facets: " + " ".join(uses) + "\n")
+    copy("test_hulls")
+    open(f"{work}/crates.txt", "w").write("".join(lines))
     shutil.copy(f"{TOP}/HANDLES", work)
-    for part in ("src", "specs"):
-        os.makedirs(f"{work}/crates/bench_facets/{part}")
-    shutil.copy(f"{HERE}/facets/main.txt", f"{work}/crates/bench_facets/src/main.rt")
-    open(f"{work}/crates/bench_facets/specs/Lib.antt", "w").close()
-    return f"{work}/crates/bench_facets"
+    return f"{work}/crates/test_hulls"
+
+
+def told_by(program, made):
+    """How many bodies the program tells otherwise, and the processor seconds of each, without those of a start."""
+    differ, times, start = 0, [], min(seconds_of(program, "")[1] for _ in range(20))
+    for body, wanted in made:
+        told, took = seconds_of(program, body + "\n")
+        times.append(took - start)
+        if told != wanted + "\n":
+            differ += 1
+            print(f"DIFFERS: {body}: {told.strip()}, wanted {wanted}")
+    return differ, sorted(times)
+
+
+def seconds_of(program, text):
+    """What the program tells of a text, and the processor seconds that it takes."""
+    before = resource.getrusage(resource.RUSAGE_CHILDREN)
+    told = subprocess.run([program], input=text, capture_output=True, text=True).stdout
+    after = resource.getrusage(resource.RUSAGE_CHILDREN)
+    return told, after.ru_utime + after.ru_stime - before.ru_utime - before.ru_stime
 
 
 def main():
+    if len(sys.argv) < 2:
+        sys.exit(__doc__)
+    if sys.argv[1] == "--tree":
+        print(tree(sys.argv[2]))
+        return 0
     count = int(sys.argv[2]) if len(sys.argv) > 2 else 100
     made = bodies(count, random.Random(int(sys.argv[3]) if len(sys.argv) > 3 else 1))
+    if len(sys.argv) > 4:
+        differ, times = told_by(os.path.abspath(sys.argv[4]), made)
+        slow = sum(it > 0.01 for it in times)
+        print(f"{len(made)} bodies, {differ} differ; half take up to {times[len(times) // 2] * 1000:.1f} ms of the processor, "
+              f"{slow} more than 10, the slowest {times[-1] * 1000:.1f}")
+        return 1 if differ else 0
     with tempfile.TemporaryDirectory() as work:
         crate = tree(work)
         os.makedirs(f"{crate}/cases")

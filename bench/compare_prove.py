@@ -14,7 +14,7 @@ counted how many assertions `prove` proves that `analyse` does not, and the othe
 """
 import os, random, re, signal, subprocess, sys, types
 
-from compare_programs import LIMIT, blur, run
+from compare_programs import LIMIT, blur, proved, run
 from compare_replay import Maker
 
 LOOPS = "--loops" in sys.argv
@@ -104,10 +104,6 @@ def loop(rng):
     text = ("int main(void) { int w = __VERIFIER_nondet_int(); int n = __VERIFIER_nondet_int(); int i = 0; %s assume(n >= %d); "
             "while (i < n) { %s } assert(%s); }")
     return (text % (begin, rng.randrange(2), " ".join(turns), claim)).encode()
-
-
-def proved(report):
-    return {line.split()[1] for line in report.splitlines() if line.startswith(b"assertion ") and line.endswith(b" proved")}
 
 
 def main():

@@ -10,7 +10,7 @@ usage: soup.py PROGRAM [--count N | --seconds S] [--seed K] [--jobs J] [--again 
 Input I of a seed is the same in each run, whatever the other words are; --show prints its words to standard error and its bytes to
 standard output. --again N runs each Nth input a second time, 0 none. The status is 1 where something was wrong.
 """
-import argparse, glob, json, os, random, re, signal, sys, time
+import argparse, copy, glob, json, os, random, re, signal, sys, time
 from collections import Counter
 from concurrent.futures import ProcessPoolExecutor
 
@@ -50,14 +50,14 @@ FAILED = rb"(?s:.*)stopped: assertion [0-9]+ failed at [0-9]+:[0-9]+ after [0-9]
 COUNTS = rb"sample [0-9]+: [0-9]+ bytes, [0-9]+ groups, [0-9]+ proved, 0 unproved\n"
 # What a command prints where it does what it is asked for, by its status.
 DONE = {
-    "analyse": {0: REPORT % b"0", 1: REPORT % b"[1-9][0-9]*"}, "certify": {0: FILE}, "renew": {0: FILE}, "check": {0: rb"check passed\n"},
+    **dict.fromkeys(("analyse", "prove", "facets"), {0: REPORT % b"0", 1: REPORT % b"[1-9][0-9]*"}), "certify": {0: FILE}, "renew": {0: FILE}, "check": {0: rb"check passed\n"},
     "edit": {0: VERSIONS + REPORT % b"0", 1: VERSIONS + REPORT % b"[1-9][0-9]*", 3: VERSIONS},
     "replay": {0: TRACE, 1: FAILED}, "cost": {0: rb"procedure (?s:.*)\n"}, "sample": {0: COUNTS},
     "--help": {0: rb"cra: (?s:.*)\n"}, "--version": {0: rb"cra [0-9.]+\n"},
 }
 # The other statuses of each command.
 ELSE = {
-    "analyse": (3, 9), "certify": (3, 9), "check": (3, 7, 8, 9), "edit": (7, 9), "renew": (3, 7, 8, 9), "replay": (3, 7, 9), "cost": (3, 9, 10),
+    "analyse": (3, 9), "prove": (3, 9), "facets": (3, 9), "certify": (3, 9), "check": (3, 7, 8, 9), "edit": (7, 9), "renew": (3, 7, 8, 9), "replay": (3, 7, 9), "cost": (3, 9, 10),
     "sample": (), "--help": (), "--version": (),
 }
 
@@ -215,7 +215,7 @@ def mutated_value(rng, value):
         if kind == 0:
             del holder[key]
         elif kind == 1:
-            holder[key] = rng.choice(SCALARS)
+            holder[key] = copy.deepcopy(rng.choice(SCALARS))
         elif kind == 2:
             holder[key] = json.loads(json.dumps(other[there]))
         elif kind == 3 and isinstance(holder, list):
@@ -260,7 +260,7 @@ def random_bytes(rng):
 
 
 def random_words(rng):
-    known = ["analyse", "certify", "check", "edit", "renew", "replay", "cost", "sample", "--help", "--version", "--", "-h", "g", "1", "3", "250", "251", "03", "+3",
+    known = ["analyse", "prove", "certify", "check", "edit", "renew", "replay", "cost", "sample", "--help", "--version", "--", "-h", "g", "1", "3", "250", "251", "03", "+3",
              "", " ", "é", "x" * 300, "a b", "edits", "facets", "cost=g", "--cost", "-1"]
     return [rng.choice(known) for _ in range(rng.choice([0, 1, 1, 2, 2, 3, 5]))]
 
@@ -268,7 +268,7 @@ def random_words(rng):
 def given(seed, number, texts, files):
     """The kind of an input, its words and its bytes."""
     rng = random.Random("%d %d" % (seed, number))
-    of_text = rng.choice([["analyse"], ["analyse"], ["certify"], ["cost", rng.choice(["g", "h", "x", "main"])]])
+    of_text = rng.choice([["analyse"], ["analyse"], ["prove"], ["facets"], ["certify"], ["cost", rng.choice(["g", "h", "x", "main"])]])
     of_file = rng.choice([["check"], ["check"], ["renew"]])
     kind = rng.randrange(22)
     if kind < 3:

@@ -3,9 +3,11 @@
 loop over more and more variables that branches, loops one behind the other, loops inside each other, recursion over more and more
 globals, a ring of procedures each of which calls the next one, and procedures of many locals with loops of many branches. For each
 text: its lines, the cost of `analyse`, of `certify` and of `check` of what that printed, and the number of answers. Where a made
-text has twice the size of one before it, the growth of the three costs is told as an exponent: 1 is linear, 2 quadratic.
+text has twice the size of one before it, the growth of the costs is told as an exponent: 1 is linear, 2 quadratic.
 
-usage: time_programs.py [--instructions] [--only NAME] PROGRAM
+usage: time_programs.py [--instructions] [--beside WORD] [--only NAME] PROGRAM
+
+With --beside the costs are those of `analyse` and of this word, which takes the same texts: `facets` or `prove`.
 
 A cost is in seconds of processor time; with --instructions it is in millions of instructions, as callgrind counts them. These are
 the same in each run, and take fifty times as long to count. --only takes the name of one text or of one family.
@@ -95,9 +97,11 @@ def instructions(command, given):
     return int(re.search(rb"Collected : (\d+)", run.stderr)[1]) / 1e6, run.stdout
 
 
-def costs(cost, program, text):
-    """What `analyse`, `certify` and `check` take of a text, and the number of answers."""
+def costs(cost, program, text, beside):
+    """What `analyse`, `certify` and `check` take of a text, or `analyse` and the word beside it; and the number of answers."""
     analyse, _ = cost([program, "analyse"], text)
+    if beside:
+        return (analyse, cost([program, beside], text)[0]), 0
     certify, file = cost([program, "certify"], text)
     check, passed = cost([program, "check"], file)
     assert passed == b"check passed\n", passed
@@ -113,12 +117,14 @@ def main():
     words = sys.argv[1:]
     cost = instructions if "--instructions" in words else seconds
     only = words[words.index("--only") + 1] if "--only" in words else None
-    print("%-16s %4s %6s %9s %9s %9s %8s  growth" % ("text", "size", "lines", "analyse", "certify", "check", "answers"))
+    beside = words[words.index("--beside") + 1] if "--beside" in words else None
+    of = ("analyse", beside) if beside else ("analyse", "certify", "check")
+    print("%-16s %4s %6s%s%s  growth" % ("text", "size", "lines", "".join(" %9s" % it for it in of), "" if beside else " %8s" % "answers"))
 
     def line(name, size, text, before=None):
-        made, answers = costs(cost, words[-1], text)
-        grows = growth(before, made) if before else ""
-        print("%-16s %4s %6d %9.2f %9.2f %9.2f %8d  %s" % (name, size, text.count(b"\n"), *made, answers, grows), flush=True)
+        made, answers = costs(cost, words[-1], text, beside)
+        told = "".join(" %9.2f" % it for it in made) + ("" if beside else " %8d" % answers)
+        print("%-16s %4s %6d%s  %s" % (name, size, text.count(b"\n"), told, growth(before, made) if before else ""), flush=True)
         return made
 
     for path in sorted(glob.glob(TEXTS + "/*.c")):

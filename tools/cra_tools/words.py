@@ -219,7 +219,7 @@ NOTES = [
     (r"limit wide (.*)", "a question has no answer, since {0} does not fit into 128 bits; what it would give is missing"),
     (r"limit pivots", "a question has no answer, since the search had no further step; what it would give is missing"),
     (r"dropped (.*?) (?:point .*|limit .*)", "recursion: that {0} holds at every return was a guess, and one more unfolding did not keep it"),
-    (r"facets beyond", "some facts about changes were left out, since there were too many of them, or too great ones"),
+    (r"facets beyond", "a loop was summed up as by `analyse`, since a turn of it has too much for the hull of its changes"),
 ]
 
 
