@@ -4,6 +4,7 @@ use Rattle.std.specs.Prelude.{◌≡◌, ◌<◌, ◌≤◌, ◌+◌, ℕ, All, 
 use Rattle.std.specs.List.{Contains}
 use Rattle.syntax_tree.specs.declared.program.Proc.{Proc}
 use Rattle.syntax_tree.specs.declared.program.Program.{Program}
+use Rattle.syntax_tree.specs.WellFormed.{IsWellFormed}
 use Rattle.execution.specs.Execution.{Fails}
 use Rattle.transition_formula.specs.Transition.{Transition}
 use Rattle.vocabularies.specs.Procs.{IsProcOf}
@@ -19,7 +20,7 @@ use Rattle.proc_summary.specs.Subject.{own_graph}
 use Rattle.newton_rounds.specs.Claims.{AreKnownMembers, AreMetMembers}
 use Rattle.newton_rounds.specs.Laws.{KnowsOthers}
 use Rattle.newton_rounds.specs.Members.{IsLinear}
-use Rattle.context.specs.Claims.{EntriesHold, FlowsHold}
+use Rattle.context.specs.Claims.{AreEntries, AreFlows, EntriesHold, FlowsHold}
 use Rattle.report.specs.declared.blocks.Judged.{Judged}
 use Rattle.report.specs.declared.verdict.Verdict.TheVariants.{Proved}
 use Rattle.report.specs.Claims.{IsRefuted}
@@ -27,6 +28,7 @@ use Rattle.analysis.specs.declared.planning.GroupKind.{GroupKind}
 use Rattle.analysis.specs.declared.planning.GroupKind.TheVariants.{Plain, Linear, Rounds}
 use Rattle.analysis.specs.declared.planning.Planned.{Planned}
 use Rattle.analysis.specs.declared.found.Found.{Found}
+use Rattle.analysis.specs.declared.judging.JudgedText.{JudgedText}
 use Rattle.analysis.specs.declared.places.TextPlace.{TextPlace}
 use Rattle.analysis.specs.declared.standing.CheckAt.{CheckAt}
 use Rattle.analysis.specs.declared.standing.Standing.{Standing}
@@ -172,6 +174,13 @@ pub record IsCheckOf (program : Program) (c : CheckAt) : Type 0 where
 pub record IsStanding (program : Program) (standing : Standing) : Type 0 where
   pub graphs : map plain standing.graphs ≡ map own_graph program.procs
   pub checks : standing.checks ≡ checks_of 0 program.procs
+
+-- what a text is judged by is that of a well-formed program
+pub record IsReadyText (text : JudgedText) : Type 0 where
+  pub formed : IsWellFormed text.program.now
+  pub standing : IsStanding text.program.now text.standing.now
+  pub entries : AreEntries text.program.now text.entries.now
+  pub flows : AreFlows text.program.now text.flows.now
 
 -- no execution from `main` fails an assertion that is proved
 abbrev pub IsJudged : Program → ℕ → Judged → Type 0

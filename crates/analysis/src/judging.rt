@@ -1,4 +1,4 @@
-ghost use Rattle.std.specs.Prelude.{◌≡◌, ◌<◌, ◌≤◌, ◌+◌, ◌^◌, ◌++◌, Some, length, map, slice_get, IfOk, OnOk};
+ghost use Rattle.std.specs.Prelude.{◌≡◌, ◌<◌, ◌≤◌, ◌+◌, ◌^◌, ◌++◌, Some, length, slice_get, IfOk, OnOk};
 ghost use Rattle.std.specs.List.{range_with_len};
 ghost use Rattle.syntax_tree.specs.WellFormed.{IsWellFormed};
 ghost use Rattle.syntax_tree.specs.declared.program.Proc.{Proc as Procedure};
@@ -17,12 +17,12 @@ ghost use Rattle.context.specs.Claims.{AreEntries, AreFlows, EntriesHold, EntryH
 ghost use Rattle.context.specs.Verdicts.{place_of, shown_columns_of, verdict_of};
 ghost use Rattle.analysis.specs.Apart.{apart};
 ghost use Rattle.analysis.specs.Judging.{numbered_assertion, assertion_by, column_names, global_names, judgements_on_all, judgement_of, place_in, unreached_judgement, with_judged};
-ghost use Rattle.analysis.specs.Claims.{AddsJudged, AreJudged, AreRefuted, IsCheckOf, IsJudged, IsStanding};
+ghost use Rattle.analysis.specs.Claims.{AddsJudged, AreJudged, AreRefuted, IsCheckOf, IsJudged, IsReadyText};
 
 use crate::names::{add_names, global_names};
 use crate::places::{TextPlace, place_in};
 use crate::standing::{CheckAt, Standing, check_with, standing_of};
-use context::graph_verdict;
+use context::{Assertion, graph_verdict};
 use farkas_check::Oracle;
 use flow_graph::Graph;
 use items::Items;
@@ -33,6 +33,17 @@ use std::alloc::{AllocError, Global};
 use std::mem;
 use syntax_tree::{Column, Name, Program};
 use transition_formula::Formula;
+
+/// What the assertions of a text are judged by: the program, where they stand in the text and in the
+/// graphs of the procedures, and the entry and the flow of each procedure.
+#[derive(Clone, Copy)]
+pub(crate) struct JudgedText<'a> {
+    pub(crate) program: &'a Program,
+    pub(crate) places: &'a [TextPlace],
+    pub(crate) standing: &'a Standing,
+    pub(crate) entries: &'a [Option<Formula>],
+    pub(crate) flows: &'a [Flow],
+}
 
 /// A verdict on each assertion, in the order of the text.
 pub(crate) fn judgements_on_all<O: Oracle>(
@@ -54,20 +65,16 @@ pub(crate) fn judgements_on_all<O: Oracle>(
     ensures refuted { IfOk result AreRefuted }
 {
     let standing = standing_of(alloc, program)?;
+    let text = JudgedText {
+        program,
+        places,
+        standing: &standing,
+        entries,
+        flows,
+    };
     let mut made = Items::new(alloc);
     for n in 0..program.checks.len() as u32 {
-        made = with_judged(
-            alloc,
-            program,
-            places,
-            &standing,
-            entries,
-            flows,
-            made,
-            n + 1,
-            oracle,
-            log,
-        )?;
+        made = with_judged(alloc, text, made, n + 1, oracle, log)?;
     }
     Ok(made)
 }
@@ -76,28 +83,22 @@ pub(crate) fn judgements_on_all<O: Oracle>(
 #[tactic(auto, using(posing::proofs::Following::following), unfolding(crate::specs::Judging::with_judged))]
 fn with_judged<O: Oracle>(
     alloc: Global,
-    program: &Program,
-    places: &[TextPlace],
-    standing: &Standing,
-    entries: &[Option<Formula>],
-    flows: &[Flow],
+    text: JudgedText<'_>,
     made: Items<Judged>,
     number: u32,
     oracle: &mut O,
     log: &mut Log,
 ) -> Result<Items<Judged>, WorkError>
-    requires formed { IsWellFormed program.now }
-    requires standing { IsStanding program.now standing.now }
-    requires entries { AreEntries program.now entries.now }
-    requires flows { AreFlows program.now flows.now }
+    requires text { IsReadyText text }
     requires number { 1 ≤ number }
     ensures follows { Asks O.asking oracle log result
-        (with_judged program.now places.now entries.now flows.now made number) }
-    ensures added { IfOk result (AddsJudged program.now entries.now flows.now made number) }
+        (with_judged text.entry.program.now text.entry.places.now text.entry.entries.now
+        text.entry.flows.now made number) }
+    ensures added { IfOk result
+        (AddsJudged text.entry.program.now text.entry.entries.now text.entry.flows.now made
+        number) }
 {
-    let judged = judgement_of(
-        alloc, program, places, standing, entries, flows, number, oracle, log,
-    )?;
+    let judged = judgement_of(alloc, text, number, oracle, log)?;
     let mut all = made;
     all.push(judged)?;
     Ok(all)
@@ -106,33 +107,25 @@ fn with_judged<O: Oracle>(
 /// One that stands in no graph is not come to.
 fn judgement_of<O: Oracle>(
     alloc: Global,
-    program: &Program,
-    places: &[TextPlace],
-    standing: &Standing,
-    entries: &[Option<Formula>],
-    flows: &[Flow],
+    text: JudgedText<'_>,
     number: u32,
     oracle: &mut O,
     log: &mut Log,
 ) -> Result<Judged, WorkError>
-    requires formed { IsWellFormed program.now }
-    requires standing { IsStanding program.now standing.now }
-    requires entries { AreEntries program.now entries.now }
-    requires flows { AreFlows program.now flows.now }
+    requires text { IsReadyText text }
     requires number { 1 ≤ number }
     ensures follows { Asks O.asking oracle log result
-        (judgement_of (place_in places.now number)
-        (numbered_assertion program.now entries.now flows.now number)) }
-    ensures sound { EntriesHold program.now entries.now → FlowsHold program.now flows.now
-        → IfOk result (IsJudged program.now number) }
+        (judgement_of (place_in text.entry.places.now number)
+        (numbered_assertion text.entry.program.now text.entry.entries.now text.entry.flows.now
+        number)) }
+    ensures sound { EntriesHold text.entry.program.now text.entry.entries.now
+        → FlowsHold text.entry.program.now text.entry.flows.now
+        → IfOk result (IsJudged text.entry.program.now number) }
     ensures refuted { IfOk result (λ judged. IsRefuted judged.verdict) }
 {
-    let at = place_in(places, number);
-    let graphs = standing.graphs.as_slice();
-    match check_with(number, standing.checks.as_slice()) {
-        Some(check) => judgement_at(
-            alloc, program, at, graphs, check, entries, flows, oracle, log,
-        ),
+    let at = place_in(text.places, number);
+    match check_with(number, text.standing.checks.as_slice()) {
+        Some(check) => judgement_at(alloc, text, at, check, oracle, log),
         None => Ok(unreached_judgement(alloc, at)),
     }
 }
@@ -155,35 +148,41 @@ fn unreached_judgement(alloc: Global, at: TextPlace) -> Judged
 #[tactic(auto, using(posing::proofs::Following::following), unfolding(crate::specs::Judging::judgement_of))]
 fn judgement_at<O: Oracle>(
     alloc: Global,
-    program: &Program,
+    text: JudgedText<'_>,
     at: TextPlace,
-    graphs: &[Graph],
     check: CheckAt,
-    entries: &[Option<Formula>],
-    flows: &[Flow],
     oracle: &mut O,
     log: &mut Log,
 ) -> Result<Judged, WorkError>
-    requires formed { IsWellFormed program.now }
-    requires graphs { map plain graphs.now ≡ map own_graph program.now.procs }
-    requires check { IsCheckOf program.now check }
-    requires entries { AreEntries program.now entries.now }
-    requires flows { AreFlows program.now flows.now }
+    requires text { IsReadyText text }
+    requires check { IsCheckOf text.program.now check }
     ensures follows { Asks O.asking oracle log result
-        (judgement_of at (assertion_by program.now entries.now flows.now check)) }
-    ensures sound { EntriesHold program.now entries.now → FlowsHold program.now flows.now
-        → IfOk result (IsJudged program.now check.number) }
+        (judgement_of at
+        (assertion_by text.entry.program.now text.entry.entries.now text.entry.flows.now check)) }
+    ensures sound { EntriesHold text.entry.program.now text.entry.entries.now
+        → FlowsHold text.entry.program.now text.entry.flows.now
+        → IfOk result (IsJudged text.entry.program.now check.number) }
     ensures refuted { IfOk result (λ judged. IsRefuted judged.verdict) }
 {
     let CheckAt { proc, check, .. } = check;
+    let JudgedText {
+        program,
+        standing,
+        entries,
+        flows,
+        ..
+    } = text;
     let named = named_columns(alloc, program, proc)?;
     let shown = shown_columns(alloc, program, proc)?;
+    let graphs = standing.graphs.as_slice();
     let graph = &graphs[proc as usize];
-    let entry = &entries[proc as usize];
-    let flow = &flows[proc as usize];
-    let (verdict, notes) = verdict_apart(
-        alloc, program, proc, graph, check, entry, flow, oracle, log,
-    )?;
+    let assertion = Assertion {
+        proc,
+        check,
+        at_entry: &entries[proc as usize],
+        flow: &flows[proc as usize],
+    };
+    let (verdict, notes) = verdict_apart(alloc, program, graph, assertion, oracle, log)?;
     Ok(Judged {
         at: at.at,
         line: at.line,
@@ -199,35 +198,36 @@ fn judgement_at<O: Oracle>(
 fn verdict_apart<O: Oracle>(
     alloc: Global,
     program: &Program,
-    proc: u32,
     graph: &Graph,
-    check: u32,
-    entry: &Option<Formula>,
-    flow: &Flow,
+    assertion: Assertion<'_>,
     oracle: &mut O,
     log: &mut Log,
 ) -> Result<(Verdict, Items<Note>), WorkError>
     requires formed { IsWellFormed program.now }
-    requires procedure { proc < length program.now.procs }
-    requires graph { plain graph.now ≡ graph_of program.now proc }
-    requires assertion { check < length flow.now.checks }
-    requires flow { (p : Procedure) → IsProcOf program.now proc p
-        → FitsFlow program.now p flow.now }
-    requires entry { (p : Procedure) → IsProcOf program.now proc p
-        → IsEntryIf (entry_width program.now p) entry.now }
+    requires procedure { assertion.proc < length program.now.procs }
+    requires graph { plain graph.now ≡ graph_of program.now assertion.proc }
+    requires assertion { assertion.check < length assertion.flow.now.checks }
+    requires flow { (p : Procedure) → IsProcOf program.now assertion.proc p
+        → FitsFlow program.now p assertion.flow.now }
+    requires entry { (p : Procedure) → IsProcOf program.now assertion.proc p
+        → IsEntryIf (entry_width program.now p) assertion.at_entry.now }
     ensures follows { (p : Procedure) (at : CheckPlace) (stop : NodeFormula)
-        → IsProcOf program.now proc p → slice_get (own_graph p).checks check ≡ Some at
-        → slice_get flow.now.checks check ≡ Some stop
+        → IsProcOf program.now assertion.entry.proc p
+        → slice_get (own_graph p).checks assertion.entry.check ≡ Some at
+        → slice_get assertion.entry.flow.now.checks assertion.entry.check ≡ Some stop
         → Asks O.asking oracle log result
-        (apart (verdict_of (place_of program.now p) at.cond entry.now stop.formula)) }
-    ensures sound { (p : Procedure) (at : CheckPlace) → IsProcOf program.now proc p
-        → slice_get (own_graph p).checks check ≡ Some at → EntryHolds program.now proc entry.now
-        → FlowHolds program.now proc flow.now
+        (apart (verdict_of (place_of program.now p) at.cond assertion.entry.at_entry.now
+        stop.formula)) }
+    ensures sound { (p : Procedure) (at : CheckPlace)
+        → IsProcOf program.now assertion.entry.proc p
+        → slice_get (own_graph p).checks assertion.entry.check ≡ Some at
+        → EntryHolds program.now assertion.entry.proc assertion.entry.at_entry.now
+        → FlowHolds program.now assertion.entry.proc assertion.entry.flow.now
         → IfOk result (λ made. made.0 ≡ Proved → ¬ Fails program.now at.number) }
     ensures refuted { IfOk result (λ made. IsRefuted made.0) }
 {
     let others = mem::replace(&mut log.notes, Items::new(alloc));
-    let result = graph_verdict(alloc, program, proc, graph, check, entry, flow, oracle, log);
+    let result = graph_verdict(alloc, program, graph, assertion, oracle, log);
     let notes = mem::replace(&mut log.notes, others);
     Ok((result?, notes))
 }

@@ -2,6 +2,7 @@
 use Rattle.std.specs.Prelude.{◌≡◌, ◌<◌, ℕ, List, [], ◌++◌, map, length, drop, Option, None, Some, slice_set}
 use Rattle.std.specs.List.{flat_map, slice_get}
 use Rattle.std.specs.Option.{unwrap_or, option_map}
+use Rattle.std.specs.Rc.{rc_value}
 use Rattle.path_expr.specs.declared.cell.Cell.{Cell}
 use Rattle.path_expr.specs.declared.cell.Cell.TheVariants as known
 use Rattle.path_expr.specs.Operations.{operations}
@@ -12,10 +13,11 @@ use Rattle.transition_formula.specs.Transition.{Transition}
 use Rattle.polyhedra.specs.Laws.{HaveCanonicalRows}
 use Rattle.checked_tree.specs.declared.growth.Growth.{Growth}
 use Rattle.polyhedra.specs.Vocabulary.{Vocabulary}
+use Rattle.checked_tree.specs.declared.making.SharedGraph.{SharedGraph}
 use Rattle.checked_tree.specs.declared.mark.LogMark.{LogMark}
 use Rattle.checked_tree.specs.declared.key.Key.{Key}
 use Rattle.checked_tree.specs.declared.key.Key.TheVariants as key
-use Rattle.checked_tree.specs.Graph.{Graph, bare, nothing, link_at, leaf_at, vocabulary_at, start_of, end_of, start_vocabulary, end_vocabulary}
+use Rattle.checked_tree.specs.Graph.{Graph, graph_of, bare, nothing, link_at, leaf_at, vocabulary_at, start_of, end_of, start_vocabulary, end_vocabulary}
 use Rattle.checked_tree.specs.Law.{IsEnd, IsLeaf, IsEvaluated, HaveCanonicalLeaves}
 use Rattle.checked_tree.specs.Ready.{IsAmong, AreReady}
 use Rattle.checked_tree.specs.Plan.{IsPathOf, ArePathsOf, AreDistinct}
@@ -43,6 +45,10 @@ pub record IsNew (before after : Log) (t : Tree) : Type 0 where
   pub answered : after.answers ≡ before.answers ++ (own_of t).log.answers
 
 -- ---- growths
+
+-- the graph whose nodes share their vocabularies with the steps of trees
+abbrev pub graph_in : SharedGraph → Graph
+graph_in g = graph_of g.links.now g.leaves.now (map rc_value g.nodes.now)
 
 -- what stands for a growth past the end: no tree, from node 0 to node 0
 abbrev pub bare_growth : Growth

@@ -22,6 +22,16 @@ use std::marker::Model;
 use std::rc::Rc;
 use transition_formula::Formula;
 
+/// The formula that a link is given, between the vocabularies of its ends.
+#[derive(Clone, Copy)]
+pub(crate) struct LinkLeaf<'a> {
+    /// The number of the link.
+    pub number: u32,
+    pub given: &'a Formula,
+    pub from: &'a Rc<Vocabulary>,
+    pub to: &'a Rc<Vocabulary>,
+}
+
 /// A tree, at each of whose steps the formula is what the stated operation comes to, from the
 /// formulas below it, under the answers that the step keeps, each of which passes.
 #[derive(Debug, Drop)]
@@ -90,57 +100,54 @@ impl Checked {
     /// The tree of a link, from the formula that it was given.
     pub(crate) fn leaf<O: Oracle>(
         alloc: Global,
-        number: u32,
-        given: &Formula,
-        from: &Rc<Vocabulary>,
-        to: &Rc<Vocabulary>,
+        link: LinkLeaf,
         oracle: &mut O,
         log: &mut Log,
     ) -> Result<Checked, WorkError>
-        requires between { IsFrom from.now.value to.now.value given.now }
-        requires start { IsEnd from.now.value }
-        requires end { IsEnd to.now.value }
-        requires solvable { AreSolvable given.now.cases }
-        requires canonical { HaveCanonicalRows given.now.cases }
+        requires between { IsFrom link.from.now.value link.to.now.value link.given.now }
+        requires start { IsEnd link.from.now.value }
+        requires end { IsEnd link.to.now.value }
+        requires solvable { AreSolvable link.given.now.cases }
+        requires canonical { HaveCanonicalRows link.given.now.cases }
         ensures follows { Asks O.asking oracle log
             (result_map (λ tree. formula_of (tree_of tree)) result)
-            (leaf_formula given.now from.now.value to.now.value) }
+            (leaf_formula link.entry.given.now link.entry.from.now.value link.entry.to.now.value) }
         ensures is { IfOk result
-            (λ tree. tree_of tree ≡ Leaf number given.now (own_of (tree_of tree))) }
-        ensures from_is { IfOk result (λ tree. (own_of (tree_of tree)).from ≡ from.now.value) }
-        ensures to_is { IfOk result (λ tree. (own_of (tree_of tree)).to ≡ to.now.value) }
+            (λ tree. tree_of tree
+            ≡ Leaf link.entry.number link.entry.given.now (own_of (tree_of tree))) }
+        ensures from_is { IfOk result
+            (λ tree. (own_of (tree_of tree)).from ≡ link.entry.from.now.value) }
+        ensures to_is { IfOk result (λ tree. (own_of (tree_of tree)).to ≡ link.entry.to.now.value) }
         ensures new { IfOk result (λ tree. IsNew log.old log.new (tree_of tree)) }
     {
         let mark = LogMark::of(log);
-        let formula = leaf(alloc, given, from, to, oracle, log)?;
+        let formula = leaf(alloc, link.given, link.from, link.to, oracle, log)?;
         see_cases(formula.cases());
-        let tree = Checked::of_leaf(alloc, number, given, from, to, formula, mark, log)?;
+        let tree = Checked::of_leaf(alloc, link, formula, mark, log)?;
         Ok(tree)
     }
 
     fn of_leaf(
         alloc: Global,
-        number: u32,
-        given: &Formula,
-        from: &Rc<Vocabulary>,
-        to: &Rc<Vocabulary>,
+        link: LinkLeaf,
         formula: Formula,
         mark: LogMark,
         log: &Log,
     ) -> Result<Checked, AllocError>
-        requires step { IsLeafStep given.now
-            (own_with from.now.value to.now.value formula mark log.now) }
+        requires step { IsLeafStep link.given.now
+            (own_with link.from.now.value link.to.now.value formula mark log.now) }
         requires notes { mark.notes ≤ length log.now.notes }
         requires answers { mark.answers ≤ length log.now.answers }
         ensures is { IfOk result
             (λ tree. tree_of tree
-            ≡ Leaf number given.now (own_with from.now.value to.now.value formula mark log.now)) }
+            ≡ Leaf link.entry.number link.entry.given.now
+            (own_with link.entry.from.now.value link.entry.to.now.value formula mark log.now)) }
         ensures checked { IfOk result (λ tree. IsChecked (tree_of tree)) }
     {
         let step = TreeStep {
-            from: from.clone()?,
-            to: to.clone()?,
-            node: Node::Leaf(number, given.clone()?),
+            from: link.from.clone()?,
+            to: link.to.clone()?,
+            node: Node::Leaf(link.number, link.given.clone()?),
             formula,
             log: mark.since(alloc, log)?,
         };

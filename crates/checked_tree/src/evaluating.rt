@@ -1,5 +1,4 @@
-ghost use Rattle.std.specs.Prelude.{[], ◌≡◌, ◌<◌, ◌^◌, length, map, replicate, IfOk};
-ghost use Rattle.std.specs.Rc.{rc_value};
+ghost use Rattle.std.specs.Prelude.{[], ◌≡◌, ◌<◌, ◌^◌, length, replicate, IfOk};
 ghost use Rattle.posing.specs.Follows.{Asks};
 ghost use Rattle.posing.specs.Posing.{each};
 ghost use Rattle.checked_tree.specs.Graph.{graph_of};
@@ -7,12 +6,12 @@ ghost use Rattle.checked_tree.specs.Evaluation.{evaluated_cells};
 ghost use Rattle.checked_tree.specs.Law.{IsEvaluated, AreFittedCells, CellsHold};
 ghost use Rattle.checked_tree.specs.ByNumber.{with_number, entries_of, evaluated_cells_by};
 ghost use Rattle.checked_tree.specs.Grown.{result_map, trees_of, formulas_of, AreGrown};
-ghost use Rattle.checked_tree.specs.Growing.{bare_growth, entries_in, tree_cell, AreUnderWay, AreGrownCells, KeepsGrowing};
+ghost use Rattle.checked_tree.specs.Growing.{graph_in, bare_growth, entries_in, tree_cell, AreUnderWay, AreGrownCells, KeepsGrowing};
 
 use crate::checked::Checked;
 use crate::growth::Growth;
 use crate::key::Key;
-use crate::making::with_number;
+use crate::making::{SharedGraph, with_number};
 use crate::plan::elimination_plan;
 use crate::table::{bare_growths, cells_by, formulas_of, see_leaves, shared_vocabularies};
 use farkas_check::Oracle;
@@ -20,7 +19,6 @@ use items::Items;
 use path_expr::{Cell, Link};
 use polyhedra::{Log, Vocabulary, WorkError};
 use std::alloc::Global;
-use std::rc::Rc;
 use transition_formula::Formula;
 
 /// The formulas of the walks from a source: at each node's place its cell. The links lead between
@@ -88,10 +86,15 @@ pub fn evaluate<O: Oracle>(
     let count = count_of(nodes);
     let (plan, cells) = elimination_plan(alloc, count, links, source)?;
     let nodes = shared.as_slice();
+    let graph = SharedGraph {
+        links,
+        leaves,
+        nodes,
+    };
     let keys = plan.keys.as_slice();
     let order = plan.order.as_slice();
     let places = cells.as_slice();
-    let growths = growths_of(alloc, links, leaves, nodes, keys, order, oracle, log)?;
+    let growths = growths_of(alloc, graph, keys, order, oracle, log)?;
     let made = cells_by(alloc, growths.as_slice(), places)?;
     Ok(made)
 }
@@ -107,56 +110,46 @@ fn count_of(nodes: &[Vocabulary]) -> u32
 #[tactic(auto, using(posing::proofs::Following::following), unfolding(crate::specs::ByNumber::entries_of))]
 fn growths_of<O: Oracle>(
     alloc: Global,
-    links: &[Link],
-    leaves: &[Formula],
-    nodes: &[Rc<Vocabulary>],
+    graph: SharedGraph,
     keys: &[Key],
     order: &[usize],
     oracle: &mut O,
     log: &mut Log,
 ) -> Result<Items<Growth>, WorkError>
-    requires { AreUnderWay (graph_of links.now leaves.now (map rc_value nodes.now)) keys.now log.now
+    requires { AreUnderWay (graph_in graph) keys.now log.now
         (replicate (length keys.now) bare_growth) order.now }
     ensures follows { Asks O.asking oracle log
         (result_map entries_in result)
-        (entries_of (graph_of links.now leaves.now (map rc_value nodes.now)) keys.now order.now) }
+        (entries_of (graph_in graph.entry) keys.now order.now) }
     ensures grown { IfOk result
-        (λ all. KeepsGrowing (graph_of links.now leaves.now (map rc_value nodes.now)) keys.now
-        log.old (replicate (length keys.now) bare_growth) order.now log.new all []) }
+        (λ all. KeepsGrowing (graph_in graph.entry) keys.now log.old
+        (replicate (length keys.now) bare_growth) order.now log.new all []) }
 {
     let growths = bare_growths(alloc, keys.len())?;
-    with_numbers(
-        alloc, links, leaves, nodes, keys, growths, order, oracle, log,
-    )
+    with_numbers(alloc, graph, keys, growths, order, oracle, log)
 }
 
 /// The growths, and those of more operations.
 fn with_numbers<O: Oracle>(
     alloc: Global,
-    links: &[Link],
-    leaves: &[Formula],
-    nodes: &[Rc<Vocabulary>],
+    graph: SharedGraph,
     keys: &[Key],
     growths: Items<Growth>,
     order: &[usize],
     oracle: &mut O,
     log: &mut Log,
 ) -> Result<Items<Growth>, WorkError>
-    requires { AreUnderWay (graph_of links.now leaves.now (map rc_value nodes.now)) keys.now log.now
-        growths order.now }
+    requires { AreUnderWay (graph_in graph) keys.now log.now growths order.now }
     ensures follows { Asks O.asking oracle log
         (result_map entries_in result)
-        (each (with_number (graph_of links.now leaves.now (map rc_value nodes.now)) keys.now)
-        (entries_in growths) order.now) }
+        (each (with_number (graph_in graph.entry) keys.now) (entries_in growths) order.now) }
     ensures grown { IfOk result
-        (λ all. KeepsGrowing (graph_of links.now leaves.now (map rc_value nodes.now)) keys.now
-        log.old growths order.now log.new all []) }
+        (λ all. KeepsGrowing (graph_in graph.entry) keys.now log.old growths order.now log.new all
+        []) }
 {
     let mut made = growths;
     for number in order {
-        made = with_number(
-            alloc, links, leaves, nodes, keys, made, *number, oracle, log,
-        )?;
+        made = with_number(alloc, graph, keys, made, *number, oracle, log)?;
     }
     Ok(made)
 }

@@ -2,13 +2,13 @@ ghost use Rattle.std.specs.Prelude.{◌≡◌, ◌<◌, [], Some, length, map, I
 ghost use Rattle.std.specs.Rc.{rc_value};
 ghost use Rattle.posing.specs.Follows.{Asks};
 ghost use Rattle.polyhedra.specs.Laws.{HaveCanonicalRows};
-ghost use Rattle.checked_tree.specs.Graph.{graph_of, bare, bare_links, link_at, leaf_at, vocabulary_at};
+ghost use Rattle.checked_tree.specs.Graph.{bare, bare_links, link_at, leaf_at, vocabulary_at};
 ghost use Rattle.checked_tree.specs.ByNumber.{link_formula, ends_by, formula_by, key_at, with_number};
 ghost use Rattle.checked_tree.specs.Tree.{tree_of, formula_of};
 ghost use Rattle.checked_tree.specs.Grown.{result_map};
-ghost use Rattle.checked_tree.specs.Growing.{growth_at, IsDueLink, grown_tree, entries_in, IsGrowable, IsNextGrowth, IsLeafOf, IsTreeBy, IsNew, HasGrown};
+ghost use Rattle.checked_tree.specs.Growing.{graph_in, growth_at, IsDueLink, grown_tree, entries_in, IsGrowable, IsNextGrowth, IsLeafOf, IsTreeBy, IsNew, HasGrown};
 
-use crate::checked::Checked;
+use crate::checked::{Checked, LinkLeaf};
 use crate::growth::Growth;
 use crate::key::Key;
 use crate::table::{ends_at, tree_at, with_growth};
@@ -19,6 +19,16 @@ use polyhedra::{Log, Vocabulary, WorkError};
 use std::alloc::Global;
 use std::rc::Rc;
 use transition_formula::Formula;
+
+/// A graph whose nodes share their vocabularies with the steps of trees.
+#[derive(Clone, Copy)]
+pub(crate) struct SharedGraph<'a> {
+    pub links: &'a [Link],
+    /// The formula of each link.
+    pub leaves: &'a [Formula],
+    /// The vocabulary of each node.
+    pub nodes: &'a [Rc<Vocabulary>],
+}
 
 fn link_at(links: &[Link], number: u32) -> Link
     ensures { result ≡ link_at (bare_links links.now []) number }
@@ -73,54 +83,51 @@ fn ends_by(links: &[Link], growths: &[Growth], key: Key) -> Link
 /// The tree of a link.
 fn of_link<O: Oracle>(
     alloc: Global,
-    links: &[Link],
-    leaves: &[Formula],
-    nodes: &[Rc<Vocabulary>],
+    graph: SharedGraph,
     number: u32,
     oracle: &mut O,
     log: &mut Log,
 ) -> Result<Checked, WorkError>
-    requires due { IsDueLink (graph_of links.now leaves.now (map rc_value nodes.now)) number }
-    requires canonical { HaveCanonicalRows
-        (leaf_at (graph_of links.now leaves.now (map rc_value nodes.now)) number).cases }
+    requires due { IsDueLink (graph_in graph) number }
+    requires canonical { HaveCanonicalRows (leaf_at (graph_in graph) number).cases }
     ensures follows { Asks O.asking oracle log
         (result_map (λ tree. formula_of (tree_of tree)) result)
-        (link_formula (graph_of links.now leaves.now (map rc_value nodes.now)) number) }
-    ensures of_leaf { IfOk result
-        (λ tree. IsLeafOf (graph_of links.now leaves.now (map rc_value nodes.now)) number
-        (tree_of tree)) }
+        (link_formula (graph_in graph.entry) number) }
+    ensures of_leaf { IfOk result (λ tree. IsLeafOf (graph_in graph.entry) number (tree_of tree)) }
     ensures new { IfOk result (λ tree. IsNew log.old log.new (tree_of tree)) }
 {
-    let link = link_at(links, number);
-    let given = leaf_at(leaves, number);
-    let start = vocabulary_at(nodes, link.from);
-    let end = vocabulary_at(nodes, link.to);
-    Checked::leaf(alloc, number, given, start, end, oracle, log)
+    let link = link_at(graph.links, number);
+    let given = leaf_at(graph.leaves, number);
+    let start = vocabulary_at(graph.nodes, link.from);
+    let end = vocabulary_at(graph.nodes, link.to);
+    let leaf = LinkLeaf {
+        number,
+        given,
+        from: start,
+        to: end,
+    };
+    Checked::leaf(alloc, leaf, oracle, log)
 }
 
 /// The tree of the path of a key, from those of its operands.
 fn tree_by<O: Oracle>(
     alloc: Global,
-    links: &[Link],
-    leaves: &[Formula],
-    nodes: &[Rc<Vocabulary>],
+    graph: SharedGraph,
     growths: &[Growth],
     key: Key,
     oracle: &mut O,
     log: &mut Log,
 ) -> Result<Checked, WorkError>
-    requires { IsGrowable (graph_of links.now leaves.now (map rc_value nodes.now)) growths.now key }
+    requires { IsGrowable (graph_in graph) growths.now key }
     ensures follows { Asks O.asking oracle log
         (result_map (λ tree. formula_of (tree_of tree)) result)
-        (formula_by (graph_of links.now leaves.now (map rc_value nodes.now))
-        (entries_in growths.now) key) }
+        (formula_by (graph_in graph.entry) (entries_in growths.now) key) }
     ensures by { IfOk result
-        (λ tree. IsTreeBy (graph_of links.now leaves.now (map rc_value nodes.now)) growths.now key
-        (tree_of tree)) }
+        (λ tree. IsTreeBy (graph_in graph.entry) growths.now key (tree_of tree)) }
     ensures new { IfOk result (λ tree. IsNew log.old log.new (tree_of tree)) }
 {
     match key {
-        Key::Edge(number) => of_link(alloc, links, leaves, nodes, number, oracle, log),
+        Key::Edge(number) => of_link(alloc, graph, number, oracle, log),
         Key::Seq(i, j) => {
             let first = tree_at(growths, i);
             let second = tree_at(growths, j);
@@ -142,29 +149,24 @@ fn tree_by<O: Oracle>(
 #[tactic(auto, using(posing::proofs::Following::following), unfolding(crate::specs::ByNumber::with_number))]
 pub(crate) fn with_number<O: Oracle>(
     alloc: Global,
-    links: &[Link],
-    leaves: &[Formula],
-    nodes: &[Rc<Vocabulary>],
+    graph: SharedGraph,
     keys: &[Key],
     growths: Items<Growth>,
     number: usize,
     oracle: &mut O,
     log: &mut Log,
 ) -> Result<Items<Growth>, WorkError>
-    requires { IsNextGrowth (graph_of links.now leaves.now (map rc_value nodes.now)) keys.now
-        growths number }
+    requires { IsNextGrowth (graph_in graph) keys.now growths number }
     ensures follows { Asks O.asking oracle log
         (result_map entries_in result)
-        (with_number (graph_of links.now leaves.now (map rc_value nodes.now)) keys.now
-        (entries_in growths) number) }
+        (with_number (graph_in graph.entry) keys.now (entries_in growths) number) }
     ensures grown { IfOk result
-        (λ next. HasGrown (graph_of links.now leaves.now (map rc_value nodes.now)) keys.now growths
-        number log.old log.new next) }
+        (λ next. HasGrown (graph_in graph.entry) keys.now growths number log.old log.new next) }
 {
     let key = key_at(keys, number);
     let made = growths.as_slice();
-    let ends = ends_by(links, made, key);
-    let tree = tree_by(alloc, links, leaves, nodes, made, key, oracle, log)?;
+    let ends = ends_by(graph.links, made, key);
+    let tree = tree_by(alloc, graph, made, key, oracle, log)?;
     let growth = Growth {
         from: ends.from,
         to: ends.to,

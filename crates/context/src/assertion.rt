@@ -38,6 +38,19 @@ use std::alloc::Global;
 use syntax_tree::{Core, Program};
 use transition_formula::{Formula, FormulaError, seq, with_posts};
 
+/// An assertion of a procedure, with what is known where it stands.
+#[derive(Clone, Copy)]
+pub struct Assertion<'a> {
+    /// The number of the procedure.
+    pub proc: u32,
+    /// The place of the assertion among those of the procedure.
+    pub check: u32,
+    /// The entry of the procedure.
+    pub at_entry: &'a Option<Formula>,
+    /// The flow of the procedure.
+    pub flow: &'a Flow,
+}
+
 /// The verdict on an assertion of a procedure, by the entry of the procedure and its flow. Proved
 /// says that no execution from `main` fails there, where the entry holds of the activations on a
 /// stack from `main` and the flow of those of its procedure, as long as the answers are true.
@@ -51,37 +64,34 @@ use transition_formula::{Formula, FormulaError, seq, with_posts};
 pub fn verdict<O: Oracle>(
     alloc: Global,
     program: &Program,
-    proc: u32,
-    check: u32,
-    entry: &Option<Formula>,
-    flow: &Flow,
+    assertion: Assertion,
     oracle: &mut O,
     log: &mut Log,
 ) -> Result<Verdict, WorkError>
     requires formed { IsWellFormed program.now }
-    requires procedure { proc < length program.now.procs }
-    requires assertion { check < length flow.now.checks }
-    requires flow { (p : Procedure) → IsProcOf program.now proc p
-        → FitsFlow program.now p flow.now }
-    requires entry { (p : Procedure) → IsProcOf program.now proc p
-        → IsEntryIf (entry_width program.now p) entry.now }
+    requires procedure { assertion.proc < length program.now.procs }
+    requires assertion { assertion.check < length assertion.flow.now.checks }
+    requires flow { (p : Procedure) → IsProcOf program.now assertion.proc p
+        → FitsFlow program.now p assertion.flow.now }
+    requires entry { (p : Procedure) → IsProcOf program.now assertion.proc p
+        → IsEntryIf (entry_width program.now p) assertion.at_entry.now }
     ensures follows { (p : Procedure) (at : CheckPlace) (stop : NodeFormula)
-        → IsProcOf program.now proc p → slice_get (own_graph p).checks check ≡ Some at
-        → slice_get flow.now.checks check ≡ Some stop
+        → IsProcOf program.now assertion.entry.proc p
+        → slice_get (own_graph p).checks assertion.entry.check ≡ Some at
+        → slice_get assertion.entry.flow.now.checks assertion.entry.check ≡ Some stop
         → Asks O.asking oracle log result
-        (verdict_of (place_of program.now p) at.cond entry.now stop.formula) }
-    ensures sound { (p : Procedure) (at : CheckPlace) → IsProcOf program.now proc p
-        → slice_get (own_graph p).checks check ≡ Some at → EntryHolds program.now proc entry.now
-        → FlowHolds program.now proc flow.now → result ≡ Ok Proved → Fails program.now at.number
-        → ⊥ }
+        (verdict_of (place_of program.now p) at.cond assertion.entry.at_entry.now stop.formula) }
+    ensures sound { (p : Procedure) (at : CheckPlace) → IsProcOf program.now assertion.entry.proc p
+        → slice_get (own_graph p).checks assertion.entry.check ≡ Some at
+        → EntryHolds program.now assertion.entry.proc assertion.entry.at_entry.now
+        → FlowHolds program.now assertion.entry.proc assertion.entry.flow.now → result ≡ Ok Proved
+        → Fails program.now at.number → ⊥ }
     ensures refuted { IfOk result IsRefuted }
-    ensures fits { (p : Procedure) → IsProcOf program.now proc p
+    ensures fits { (p : Procedure) → IsProcOf program.now assertion.entry.proc p
         → IfOk result (FitsVerdict (length (shown_columns_of program.now p))) }
 {
-    let graph = graph(alloc, program, proc)?;
-    graph_verdict(
-        alloc, program, proc, &graph, check, entry, flow, oracle, log,
-    )
+    let graph = graph(alloc, program, assertion.proc)?;
+    graph_verdict(alloc, program, &graph, assertion, oracle, log)
 }
 
 /// The same by the procedure's graph, which serves all its assertions.
@@ -92,39 +102,44 @@ pub fn verdict<O: Oracle>(
 pub fn graph_verdict<O: Oracle>(
     alloc: Global,
     program: &Program,
-    proc: u32,
     graph: &Graph,
-    check: u32,
-    entry: &Option<Formula>,
-    flow: &Flow,
+    assertion: Assertion,
     oracle: &mut O,
     log: &mut Log,
 ) -> Result<Verdict, WorkError>
     requires formed { IsWellFormed program.now }
-    requires procedure { proc < length program.now.procs }
-    requires graph { plain graph.now ≡ graph_of program.now proc }
-    requires assertion { check < length flow.now.checks }
-    requires flow { (p : Procedure) → IsProcOf program.now proc p
-        → FitsFlow program.now p flow.now }
-    requires entry { (p : Procedure) → IsProcOf program.now proc p
-        → IsEntryIf (entry_width program.now p) entry.now }
+    requires procedure { assertion.proc < length program.now.procs }
+    requires graph { plain graph.now ≡ graph_of program.now assertion.proc }
+    requires assertion { assertion.check < length assertion.flow.now.checks }
+    requires flow { (p : Procedure) → IsProcOf program.now assertion.proc p
+        → FitsFlow program.now p assertion.flow.now }
+    requires entry { (p : Procedure) → IsProcOf program.now assertion.proc p
+        → IsEntryIf (entry_width program.now p) assertion.at_entry.now }
     ensures follows { (p : Procedure) (at : CheckPlace) (stop : NodeFormula)
-        → IsProcOf program.now proc p → slice_get (own_graph p).checks check ≡ Some at
-        → slice_get flow.now.checks check ≡ Some stop
+        → IsProcOf program.now assertion.entry.proc p
+        → slice_get (own_graph p).checks assertion.entry.check ≡ Some at
+        → slice_get assertion.entry.flow.now.checks assertion.entry.check ≡ Some stop
         → Asks O.asking oracle log result
-        (verdict_of (place_of program.now p) at.cond entry.now stop.formula) }
-    ensures sound { (p : Procedure) (at : CheckPlace) → IsProcOf program.now proc p
-        → slice_get (own_graph p).checks check ≡ Some at → EntryHolds program.now proc entry.now
-        → FlowHolds program.now proc flow.now → result ≡ Ok Proved → Fails program.now at.number
-        → ⊥ }
+        (verdict_of (place_of program.now p) at.cond assertion.entry.at_entry.now stop.formula) }
+    ensures sound { (p : Procedure) (at : CheckPlace) → IsProcOf program.now assertion.entry.proc p
+        → slice_get (own_graph p).checks assertion.entry.check ≡ Some at
+        → EntryHolds program.now assertion.entry.proc assertion.entry.at_entry.now
+        → FlowHolds program.now assertion.entry.proc assertion.entry.flow.now → result ≡ Ok Proved
+        → Fails program.now at.number → ⊥ }
     ensures refuted { IfOk result IsRefuted }
-    ensures fits { (p : Procedure) → IsProcOf program.now proc p
+    ensures fits { (p : Procedure) → IsProcOf program.now assertion.entry.proc p
         → IfOk result (FitsVerdict (length (shown_columns_of program.now p))) }
 {
+    let Assertion {
+        proc,
+        check,
+        at_entry,
+        flow,
+    } = assertion;
     let stand = &flow.checks.as_slice()[check as usize].formula;
     let cond = &graph.checks.as_slice()[check as usize].cond;
     let place = place_of(alloc, program, proc)?;
-    verdict_at(alloc, &place, cond, entry, stand, oracle, log)
+    verdict_at(alloc, &place, cond, at_entry, stand, oracle, log)
 }
 
 /// The same by the assertion's condition, and by the formula of where it stands.

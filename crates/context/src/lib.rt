@@ -13,7 +13,7 @@ mod place;
 mod second_questions;
 mod stand;
 
-pub use assertion::{graph_verdict, verdict};
+pub use assertion::{Assertion, graph_verdict, verdict};
 pub use entry_formulas::entries;
 pub use judging::verdict_on_cases;
 pub use laws::assertions_hold;

@@ -132,72 +132,85 @@ fn cost_by_last<O: Oracle>(
         → Asks O.asking oracle log result (cost_by_last change.now rows.now stated) }
 {
     match last {
-        Ok(last) => cost_asked(alloc, rows, change, last, oracle, log),
+        Ok(last) => {
+            let growth = Growth {
+                change,
+                rows,
+                last: &last,
+            };
+            cost_asked(alloc, growth, oracle, log)
+        }
         Err(error) => Ok(Cost::Limit(limit_of(error)?)),
     }
+}
+
+/// The question whether a change grows without end.
+#[derive(Clone, Copy)]
+pub(crate) struct Growth<'a> {
+    pub(crate) change: &'a Poly,
+    /// The rows of the case.
+    pub(crate) rows: &'a Items<Row>,
+    /// The row that asks for growth.
+    pub(crate) last: &'a Row,
 }
 
 /// Asks the first question.
 #[tactic(auto, using(posing::proofs::Following::following), unfolding(crate::specs::Costs::cost_asked))]
 fn cost_asked<O: Oracle>(
     alloc: Global,
-    rows: &Items<Row>,
-    change: &Poly,
-    last: Row,
+    growth: Growth,
     oracle: &mut O,
     log: &mut Log,
 ) -> Result<Cost, WorkError>
-    ensures { Asks O.asking oracle log result (cost_asked change.now rows.now last) }
+    ensures { Asks O.asking oracle log result
+        (cost_asked growth.entry.change.now growth.entry.rows.now growth.entry.last.now) }
 {
-    let entries = entry_rows(alloc, rows, change)?;
-    let answer = first_answer(alloc, rows, &entries, &last, oracle, log)?;
-    cost_by_answer(alloc, change, last, rows, entries, answer, oracle, log)
+    let entries = entry_rows(alloc, growth.rows, growth.change)?;
+    let answer = first_answer(alloc, growth, &entries, oracle, log)?;
+    cost_by_answer(alloc, growth, entries, answer, oracle, log)
 }
 
 fn first_answer<O: Oracle>(
     alloc: Global,
-    rows: &Items<Row>,
+    growth: Growth,
     entries: &Items<Row>,
-    last: &Row,
     oracle: &mut O,
     log: &mut Log,
 ) -> Result<Answer, WorkError>
     ensures { Asks O.asking oracle log result
-        (answer_to (Infeasible (cost_rows rows.now entries.now last.now))) }
+        (answer_to (Infeasible (cost_rows growth.entry.rows.now entries.now growth.entry.last.now))) }
 {
-    let question = question_with(alloc, rows, entries, last)?;
+    let question = question_with(alloc, growth, entries)?;
     ask(alloc, &question, oracle, log)
 }
 
 fn question_with(
     alloc: Global,
-    rows: &Items<Row>,
+    growth: Growth,
     entries: &Items<Row>,
-    last: &Row,
 ) -> Result<Question, AllocError>
     ensures { IfOk result (λ question. question
-        ≡ Infeasible (cost_rows rows.now entries.now last.now)) }
+        ≡ Infeasible (cost_rows growth.entry.rows.now entries.now growth.entry.last.now)) }
 {
-    let bares = bares_of(alloc, rows)?;
+    let bares = bares_of(alloc, growth.rows)?;
     let entries = copy_of(entries)?;
-    question_of(bares, entries, last)
+    question_of(bares, entries, growth.last)
 }
 
 fn cost_by_answer<O: Oracle>(
     alloc: Global,
-    change: &Poly,
-    last: Row,
-    rows: &Items<Row>,
+    growth: Growth,
     entries: Items<Row>,
     answer: Answer,
     oracle: &mut O,
     log: &mut Log,
 ) -> Result<Cost, WorkError>
     ensures { Asks O.asking oracle log result
-        (by_answer change.now.rest last rows.now entries answer) }
+        (by_answer growth.entry.change.now.rest growth.entry.last.now growth.entry.rows.now entries
+        answer) }
 {
     match answer {
-        Answer::Yes(by) => cost_by_yes(alloc, change, last, rows, entries, by, oracle, log),
+        Answer::Yes(by) => cost_by_yes(alloc, growth, entries, by, oracle, log),
         Answer::No(point) => Ok(Cost::Unbounded(point)),
         Answer::Limit(limit) => Ok(Cost::Limit(limit)),
         Answer::Bound { .. } => Ok(Cost::Limit(Limit::Pivots)),
@@ -210,20 +223,19 @@ fn cost_by_answer<O: Oracle>(
 #[tactic(auto, using(posing::proofs::Following::following))]
 fn cost_by_yes<O: Oracle>(
     alloc: Global,
-    change: &Poly,
-    last: Row,
-    rows: &Items<Row>,
+    growth: Growth,
     entries: Items<Row>,
     by: Items<i128>,
     oracle: &mut O,
     log: &mut Log,
 ) -> Result<Cost, WorkError>
     ensures { Asks O.asking oracle log result
-        (by_answer change.now.rest last rows.now entries (Yes by)) }
+        (by_answer growth.entry.change.now.rest growth.entry.last.now growth.entry.rows.now entries
+        (Yes by)) }
 {
-    let kept = kept_part(rows, entries, by)?;
-    let least = least_kept(alloc, kept, &last, oracle, log)?;
-    Ok(kept_bound(alloc, change, last, least)?)
+    let kept = kept_part(growth.rows, entries, by)?;
+    let least = least_kept(alloc, kept, growth.last, oracle, log)?;
+    Ok(kept_bound(alloc, growth, least)?)
 }
 
 fn kept_part(rows: &Items<Row>, entries: Items<Row>, by: Items<i128>) -> Result<Kept, AllocError>
@@ -233,31 +245,32 @@ fn kept_part(rows: &Items<Row>, entries: Items<Row>, by: Items<i128>) -> Result<
     Ok(Kept { rows, entries, by })
 }
 
-fn kept_bound(alloc: Global, change: &Poly, last: Row, kept: Kept) -> Result<Cost, AllocError>
-    ensures { IfOk result (λ made. made ≡ kept_bound change.now.rest last kept) }
+fn kept_bound(alloc: Global, growth: Growth, kept: Kept) -> Result<Cost, AllocError>
+    ensures { IfOk result
+        (λ made. made ≡ kept_bound growth.entry.change.now.rest growth.entry.last.now kept) }
 {
     let Kept { rows, entries, by } = kept;
     let by = lowest_multipliers(alloc, by.as_slice())?;
     let sum = bound_of(
         alloc,
-        change,
+        growth.change,
         rows.as_slice(),
         entries.as_slice(),
         by.as_slice(),
     );
-    bound_by(alloc, rows, entries, last, by, sum)
+    bound_by(alloc, rows, entries, growth.last, by, sum)
 }
 
 fn bound_by(
     alloc: Global,
     rows: Items<Row>,
     entries: Items<Row>,
-    last: Row,
+    last: &Row,
     by: Items<i128>,
     sum: Result<Poly, TermError>,
 ) -> Result<Cost, AllocError>
     ensures { (stated : Made) → Gives cause (λ p. p) sum stated
-        → IfOk result (λ made. made ≡ bound_by rows entries last by stated) }
+        → IfOk result (λ made. made ≡ bound_by rows entries last.now by stated) }
 {
     match sum {
         Ok(poly) => told_bound(alloc, rows, entries, last, by, poly),
@@ -269,15 +282,15 @@ fn told_bound(
     alloc: Global,
     rows: Items<Row>,
     entries: Items<Row>,
-    last: Row,
+    last: &Row,
     by: Items<i128>,
     poly: Poly,
 ) -> Result<Cost, AllocError>
-    ensures { IfOk result (λ made. made ≡ bound_by rows entries last by (Ok poly)) }
+    ensures { IfOk result (λ made. made ≡ bound_by rows entries last.now by (Ok poly)) }
 {
     let scale = scale_in(rows.as_slice(), entries.as_slice(), by.as_slice());
     let bares = bares_of(alloc, &rows)?;
-    let kept = asked_rows(bares, entries, &last)?;
+    let kept = asked_rows(bares, entries, last)?;
     Ok(Cost::Bound {
         scale,
         by: poly,

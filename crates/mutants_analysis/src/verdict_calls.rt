@@ -17,6 +17,7 @@ ghost use Rattle.context.specs.Entries.{entries_from};
 ghost use Rattle.context.specs.Judging.{IsVerdictOnAll};
 ghost use Rattle.context.specs.Verdicts.{verdict_on_cases_from, place_of, shown_columns_of, verdict_of};
 
+use context::Assertion;
 use farkas_check::Oracle;
 use items::Items;
 use linear_terms::Case;
@@ -48,34 +49,33 @@ pub fn entries<O: Oracle>(
 pub fn verdict<O: Oracle>(
     alloc: Global,
     program: &Program,
-    proc: u32,
-    check: u32,
-    entry: &Option<Formula>,
-    flow: &Flow,
+    assertion: Assertion,
     oracle: &mut O,
     log: &mut Log,
 ) -> Result<Verdict, WorkError>
     requires formed { IsWellFormed program.now }
-    requires procedure { proc < length program.now.procs }
-    requires assertion { check < length flow.now.checks }
-    requires flow { (p : Procedure) → IsProcOf program.now proc p
-        → FitsFlow program.now p flow.now }
-    requires entry { (p : Procedure) → IsProcOf program.now proc p
-        → IsEntryIf (entry_width program.now p) entry.now }
+    requires procedure { assertion.proc < length program.now.procs }
+    requires assertion { assertion.check < length assertion.flow.now.checks }
+    requires flow { (p : Procedure) → IsProcOf program.now assertion.proc p
+        → FitsFlow program.now p assertion.flow.now }
+    requires entry { (p : Procedure) → IsProcOf program.now assertion.proc p
+        → IsEntryIf (entry_width program.now p) assertion.at_entry.now }
     ensures follows { (p : Procedure) (at : CheckPlace) (stop : NodeFormula)
-        → IsProcOf program.now proc p → slice_get (own_graph p).checks check ≡ Some at
-        → slice_get flow.now.checks check ≡ Some stop
+        → IsProcOf program.now assertion.entry.proc p
+        → slice_get (own_graph p).checks assertion.entry.check ≡ Some at
+        → slice_get assertion.entry.flow.now.checks assertion.entry.check ≡ Some stop
         → Asks O.asking oracle log result
-        (verdict_of (place_of program.now p) at.cond entry.now stop.formula) }
-    ensures sound { (p : Procedure) (at : CheckPlace) → IsProcOf program.now proc p
-        → slice_get (own_graph p).checks check ≡ Some at → EntryHolds program.now proc entry.now
-        → FlowHolds program.now proc flow.now → result ≡ Ok Proved → Fails program.now at.number
-        → ⊥ }
+        (verdict_of (place_of program.now p) at.cond assertion.entry.at_entry.now stop.formula) }
+    ensures sound { (p : Procedure) (at : CheckPlace) → IsProcOf program.now assertion.entry.proc p
+        → slice_get (own_graph p).checks assertion.entry.check ≡ Some at
+        → EntryHolds program.now assertion.entry.proc assertion.entry.at_entry.now
+        → FlowHolds program.now assertion.entry.proc assertion.entry.flow.now → result ≡ Ok Proved
+        → Fails program.now at.number → ⊥ }
     ensures refuted { IfOk result IsRefuted }
-    ensures fits { (p : Procedure) → IsProcOf program.now proc p
+    ensures fits { (p : Procedure) → IsProcOf program.now assertion.entry.proc p
         → IfOk result (FitsVerdict (length (shown_columns_of program.now p))) }
 {
-    context::verdict(alloc, program, proc, check, entry, flow, oracle, log)
+    context::verdict(alloc, program, assertion, oracle, log)
 }
 
 /// The verdict on cases in which an assertion would fail.

@@ -34,6 +34,8 @@ pub mod NumberCounts
 pub mod GroupCalls
 pub mod BothSides
 pub mod GroupMembers
+-- a group that stands in its program
+pub mod ReadyGroups
 -- ---- one more unfolding
 pub mod LeafFits
 pub mod Unfoldings

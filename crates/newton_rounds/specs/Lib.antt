@@ -22,3 +22,4 @@ pub mod Alike
 pub mod Reached
 pub mod Shapes
 pub mod Between
+pub mod Groups

@@ -1,4 +1,4 @@
-ghost use Rattle.std.specs.Prelude.{◌≡◌, ◌<◌, [], All, length, IfOk};
+ghost use Rattle.std.specs.Prelude.{◌≡◌, ◌<◌, [], length, IfOk};
 ghost use Rattle.syntax_tree.specs.WellFormed.{IsWellFormed};
 ghost use Rattle.syntax_tree.specs.declared.program.Proc.{Proc as Procedure};
 ghost use Rattle.posing.specs.Follows.{Asks};
@@ -8,13 +8,15 @@ ghost use Rattle.vocabularies.specs.Procs.{IsProcOf};
 ghost use Rattle.leaf_cases.specs.Conditions.{AreKnown};
 ghost use Rattle.proc_summary.specs.Claims.{FitsIf};
 ghost use Rattle.newton_rounds.specs.Between.{AddsBase, AreBases, GoesBetween};
-ghost use Rattle.newton_rounds.specs.Closure.{base_of, bases_of, ends_of_members, pair_ends, with_base};
+ghost use Rattle.newton_rounds.specs.Closure.{base_of, bases_of, pair_ends, with_base};
+ghost use Rattle.newton_rounds.specs.Groups.{IsReadyGroup};
 ghost use Rattle.newton_rounds.specs.Members.{members_of};
 ghost use Rattle.newton_rounds.specs.Pairs.{base_from, losses_in_base};
 ghost use Rattle.newton_rounds.specs.Shapes.{AreEnds};
 
 use crate::ends::{PairEnds, pair_ends};
 use crate::exits::exit_from;
+use crate::group::KnownGroup;
 use crate::pairs::base_from;
 use crate::tables::with_table;
 use farkas_check::Oracle;
@@ -28,40 +30,35 @@ use transition_formula::{Formula, FormulaError};
 #[tactic(auto, using(posing::proofs::Following::following), unfolding(crate::specs::Closure::bases_of))]
 pub(crate) fn bases_of<O: Oracle>(
     alloc: Global,
-    program: &Program,
-    procs: &[u32],
-    known: &[Option<Formula>],
+    group: KnownGroup<'_>,
     oracle: &mut O,
     log: &mut Log,
 ) -> Result<Items<Formula>, WorkError>
-    requires formed { IsWellFormed program.now }
-    requires there { All (λ proc. proc < length program.now.procs) procs.now }
-    requires known { AreKnown program.now known.now }
-    ensures follows { Asks O.asking oracle log result (bases_of program.now procs.now known.now) }
-    ensures fits { IfOk result (AreBases (ends_of_members program.now procs.now)) }
+    requires { IsReadyGroup group }
+    ensures follows { Asks O.asking oracle log result
+        (bases_of group.entry.program.now group.entry.procs.now group.entry.known.now) }
+    ensures fits { IfOk result (AreBases group.entry.members.now) }
 {
-    let others = with_table(alloc, procs, &[], known)?;
-    bases_by(alloc, program, procs, others.as_slice(), oracle, log)
+    let others = with_table(alloc, group.procs, &[], group.known)?;
+    let known = others.as_slice();
+    bases_by(alloc, KnownGroup { known, ..group }, oracle, log)
 }
 
 fn bases_by<O: Oracle>(
     alloc: Global,
-    program: &Program,
-    procs: &[u32],
-    known: &[Option<Formula>],
+    group: KnownGroup<'_>,
     oracle: &mut O,
     log: &mut Log,
 ) -> Result<Items<Formula>, WorkError>
-    requires formed { IsWellFormed program.now }
-    requires there { All (λ proc. proc < length program.now.procs) procs.now }
-    requires known { AreKnown program.now known.now }
+    requires { IsReadyGroup group }
     ensures follows { Asks O.asking oracle log result
-        (each (with_base program.now known.now) [] (members_of program.now procs.now)) }
-    ensures fits { IfOk result (AreBases (ends_of_members program.now procs.now)) }
+        (each (with_base group.entry.program.now group.entry.known.now) []
+        (members_of group.entry.program.now group.entry.procs.now)) }
+    ensures fits { IfOk result (AreBases group.entry.members.now) }
 {
     let mut made = Items::new(alloc);
-    for proc in procs {
-        made = with_base(alloc, program, *proc, known, made, oracle, log)?;
+    for proc in group.procs {
+        made = with_base(alloc, group, *proc, made, oracle, log)?;
     }
     Ok(made)
 }
@@ -69,22 +66,21 @@ fn bases_by<O: Oracle>(
 #[tactic(auto, using(posing::proofs::Following::following), unfolding(crate::specs::Closure::with_base))]
 fn with_base<O: Oracle>(
     alloc: Global,
-    program: &Program,
+    group: KnownGroup<'_>,
     proc: u32,
-    known: &[Option<Formula>],
     made: Items<Formula>,
     oracle: &mut O,
     log: &mut Log,
 ) -> Result<Items<Formula>, WorkError>
-    requires formed { IsWellFormed program.now }
-    requires procedure { proc < length program.now.procs }
-    requires known { AreKnown program.now known.now }
-    ensures follows { (p : Procedure) → IsProcOf program.now proc p
-        → Asks O.asking oracle log result (with_base program.now known.now made p) }
-    ensures fits { (p : Procedure) → IsProcOf program.now proc p
-        → IfOk result (AddsBase (pair_ends program.now p) made) }
+    requires group { IsReadyGroup group }
+    requires procedure { proc < length group.program.now.procs }
+    ensures follows { (p : Procedure) → IsProcOf group.entry.program.now proc p
+        → Asks O.asking oracle log result
+        (with_base group.entry.program.now group.entry.known.now made p) }
+    ensures fits { (p : Procedure) → IsProcOf group.entry.program.now proc p
+        → IfOk result (AddsBase (pair_ends group.entry.program.now p) made) }
 {
-    let base = base_of(alloc, program, proc, known, oracle, log)?;
+    let base = base_of(alloc, group.program, proc, group.known, oracle, log)?;
     let mut all = made;
     all.push(base)?;
     Ok(all)

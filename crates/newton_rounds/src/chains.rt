@@ -1,8 +1,9 @@
 ghost use Rattle.std.specs.Prelude.{◌≡◌, ◌<◌, ◌^◌, ◌++◌, [], ◌∷◌, length, IfOk, OnOk};
 ghost use Rattle.std.specs.List.{flat_map};
 ghost use Rattle.posing.specs.Follows.{Asks};
-ghost use Rattle.newton_rounds.specs.Closure.{chain_end, chains_of, closure_at, ends_at, exits_told, losses_in_chain_end, losses_in_chains, losses_in_exits, others_in, pair_cell};
-ghost use Rattle.newton_rounds.specs.Between.{AreChained, GoesBetween, width_at};
+ghost use Rattle.newton_rounds.specs.Closure.{chains_of, closure_at, exits_told, losses_in_chains, losses_in_exits, others_in, pair_cell};
+ghost use Rattle.newton_rounds.specs.Between.{GoesBetween, width_at};
+ghost use Rattle.newton_rounds.specs.Groups.{AreReadyParts, chain_by, losses_in_chain_by};
 ghost use Rattle.newton_rounds.specs.Shapes.{AreEnds};
 
 use crate::ends::{PairEnds, numbers_from};
@@ -15,24 +16,34 @@ use posing::{Log, WorkError};
 use std::alloc::{AllocError, Global};
 use transition_formula::{Formula, FormulaError, Loss, hidden, identity, seq, with_entries};
 
-/// The formula of the procedure at a place, by what stands at each procedure of the group: the
-/// chains of calls from the one to the other, each with the base of its end.
+/// What the chains of calls from the procedure at a place are made of: the ends of each procedure of
+/// the group, its base, and what leads to its pairs from those of the procedure at the place.
+#[derive(Clone, Copy)]
+pub(crate) struct ChainParts<'a> {
+    pub(crate) members: &'a [PairEnds],
+    pub(crate) bases: &'a [Formula],
+    pub(crate) place: u32,
+    pub(crate) cells: &'a [Cell<Formula>],
+}
+
+/// The formula of the procedure at a place: the chains of calls from it to each procedure of the
+/// group, each with the base of its end.
 #[tactic(auto, using(posing::proofs::Following::following), unfolding(crate::specs::Closure::closure_at))]
 pub(crate) fn closure_at<O: Oracle>(
     alloc: Global,
-    members: &[PairEnds],
-    bases: &[Formula],
-    place: u32,
-    cells: &[Cell<Formula>],
+    parts: ChainParts<'_>,
     oracle: &mut O,
     log: &mut Log,
 ) -> Result<Formula, WorkError>
-    requires { AreChained members.now bases.now place cells.now }
-    ensures { Asks O.asking oracle log result (closure_at members.now bases.now place cells.now) }
+    requires { AreReadyParts parts }
+    ensures { Asks O.asking oracle log result
+        (closure_at parts.entry.members.now parts.entry.bases.now parts.entry.place
+        parts.entry.cells.now) }
 {
+    let ChainParts { members, place, .. } = parts;
     let member = &members[place as usize];
     let mut lost = Items::new(alloc);
-    let chains = chains_of(alloc, members, bases, place, cells, &mut lost)?;
+    let chains = chains_of(alloc, parts, &mut lost)?;
     let told = exits_told(alloc, member, &chains, &mut lost)?;
     log.add_losses(alloc, lost.as_slice())?;
     leaf(alloc, &told, &member.entry, &member.exit, oracle, log)
@@ -42,21 +53,22 @@ pub(crate) fn closure_at<O: Oracle>(
 /// end with the others, in their order.
 fn chains_of(
     alloc: Global,
-    members: &[PairEnds],
-    bases: &[Formula],
-    place: u32,
-    cells: &[Cell<Formula>],
+    parts: ChainParts<'_>,
     lost: &mut Items<Loss>,
 ) -> Result<Formula, FormulaError>
-    requires { AreChained members.now bases.now place cells.now }
-    ensures made { IfOk result (λ f. f ≡ chains_of members.now bases.now cells.now place) }
+    requires { AreReadyParts parts }
+    ensures made { IfOk result
+        (λ f. f ≡ chains_of parts.entry.members.now parts.entry.bases.now parts.entry.cells.now
+        parts.entry.place) }
     ensures noted { OnOk result
-        (lost.new ≡ lost.old ++ losses_in_chains members.now bases.now cells.now place) }
+        (lost.new ≡ lost.old ++ losses_in_chains parts.entry.members.now parts.entry.bases.now
+        parts.entry.cells.now parts.entry.place) }
 {
+    let ChainParts { members, place, .. } = parts;
     let mut cases = Items::new(alloc);
-    add_chains(alloc, members, bases, place, place, cells, &mut cases, lost)?;
+    add_chains(alloc, parts, place, &mut cases, lost)?;
     for n in 0..members.len() as u32 {
-        add_others(alloc, members, bases, place, n, cells, &mut cases, lost)?;
+        add_others(alloc, parts, n, &mut cases, lost)?;
     }
     Ok(Formula::from_cases(width_at(members, place), 0, cases))
 }
@@ -64,68 +76,61 @@ fn chains_of(
 /// The chains that end with a procedure, where it is another.
 fn add_others(
     alloc: Global,
-    members: &[PairEnds],
-    bases: &[Formula],
-    place: u32,
+    parts: ChainParts<'_>,
     n: u32,
-    cells: &[Cell<Formula>],
     cases: &mut Items<Case>,
     lost: &mut Items<Loss>,
 ) -> Result<(), FormulaError>
-    requires chained { AreChained members.now bases.now place cells.now }
-    requires there { n < length members.now }
+    requires chained { AreReadyParts parts }
+    requires there { n < length parts.members.now }
     ensures made { OnOk result
-        (cases.new ≡ cases.old
-        ++ flat_map (λ n. (chain_end members.now bases.now cells.now place n).cases)
-        (others_in place (n ∷ []))) }
+        (cases.new ≡ cases.old ++ flat_map (λ n. (chain_by parts.entry n).cases)
+        (others_in parts.entry.place (n ∷ []))) }
     ensures noted { OnOk result
-        (lost.new ≡ lost.old ++ flat_map (losses_in_chain_end members.now bases.now cells.now place)
-        (others_in place (n ∷ []))) }
+        (lost.new ≡ lost.old ++ flat_map (losses_in_chain_by parts.entry)
+        (others_in parts.entry.place (n ∷ []))) }
 {
-    if n == place {
+    if n == parts.place {
         return Ok(());
     }
-    add_chains(alloc, members, bases, place, n, cells, cases, lost)
+    add_chains(alloc, parts, n, cases, lost)
 }
 
 /// Adds the cases of the chains that end with a procedure.
 fn add_chains(
     alloc: Global,
-    members: &[PairEnds],
-    bases: &[Formula],
-    place: u32,
+    parts: ChainParts<'_>,
     n: u32,
-    cells: &[Cell<Formula>],
     cases: &mut Items<Case>,
     lost: &mut Items<Loss>,
 ) -> Result<(), FormulaError>
-    requires chained { AreChained members.now bases.now place cells.now }
-    requires there { n < length members.now }
-    ensures made { OnOk result
-        (cases.new ≡ cases.old ++ (chain_end members.now bases.now cells.now place n).cases) }
-    ensures noted { OnOk result
-        (lost.new ≡ lost.old ++ losses_in_chain_end members.now bases.now cells.now place n) }
+    requires chained { AreReadyParts parts }
+    requires there { n < length parts.members.now }
+    ensures made { OnOk result (cases.new ≡ cases.old ++ (chain_by parts.entry n).cases) }
+    ensures noted { OnOk result (lost.new ≡ lost.old ++ losses_in_chain_by parts.entry n) }
 {
-    let chains = chain_end(alloc, members, bases, place, n, cells, lost)?;
+    let chains = chain_end(alloc, parts, n, lost)?;
     Ok(add_cases(chains.cases(), cases)?)
 }
 
 /// The chains that end with a procedure, whose last activation calls no other of the group.
 fn chain_end(
     alloc: Global,
-    members: &[PairEnds],
-    bases: &[Formula],
-    place: u32,
+    parts: ChainParts<'_>,
     n: u32,
-    cells: &[Cell<Formula>],
     lost: &mut Items<Loss>,
 ) -> Result<Formula, FormulaError>
-    requires chained { AreChained members.now bases.now place cells.now }
-    requires there { n < length members.now }
-    ensures made { IfOk result (λ f. f ≡ chain_end members.now bases.now cells.now place n) }
-    ensures noted { OnOk result
-        (lost.new ≡ lost.old ++ losses_in_chain_end members.now bases.now cells.now place n) }
+    requires chained { AreReadyParts parts }
+    requires there { n < length parts.members.now }
+    ensures made { IfOk result (λ f. f ≡ chain_by parts.entry n) }
+    ensures noted { OnOk result (lost.new ≡ lost.old ++ losses_in_chain_by parts.entry n) }
 {
+    let ChainParts {
+        members,
+        bases,
+        place,
+        cells,
+    } = parts;
     let from = width_at(members, place);
     let to = width_at(members, n);
     let first = pair_cell(alloc, from, to, &cells[n as usize])?;

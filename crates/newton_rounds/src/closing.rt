@@ -8,7 +8,7 @@ ghost use Rattle.leaf_cases.specs.Summaries.{AreMet};
 ghost use Rattle.newton_rounds.specs.Claims.{AreKnownMembers, AreMetMembers, TellsLinear};
 ghost use Rattle.newton_rounds.specs.Candidates.{summaries_by_round};
 ghost use Rattle.newton_rounds.specs.Close.{closure_by_rounds, group_closure, pairs_of, rounds_after, rounds_over, with_candidate};
-ghost use Rattle.newton_rounds.specs.Closure.{ends_of_members};
+ghost use Rattle.newton_rounds.specs.Groups.{IsReadyGroup};
 ghost use Rattle.newton_rounds.specs.Laws.{KnowsOthers};
 ghost use Rattle.newton_rounds.specs.Between.{AreBases, AreCandidates, AreSummaries, FitTable, IsMember, IsSummary};
 
@@ -17,6 +17,7 @@ use crate::candidates::{candidate_of, table_of};
 use crate::closure::closure_of;
 use crate::ends::{PairEnds, ends_of_members};
 use crate::findings::RoundEnd;
+use crate::group::KnownGroup;
 use crate::rounds::last_round;
 use farkas_check::Oracle;
 use items::Items;
@@ -50,34 +51,38 @@ pub fn close<O: Oracle>(
     ensures met { AreMet program.now known.now → KnowsOthers program.now procs.now known.now
         → IfOk result (AreMetMembers program.now procs.now) }
 {
-    group_closure(alloc, program, procs, known, linear, oracle, log)
+    let members = ends_of_members(alloc, program, procs)?;
+    let group = KnownGroup {
+        program,
+        procs,
+        members: members.as_slice(),
+        known,
+    };
+    group_closure(alloc, group, linear, oracle, log)
 }
 
 /// The same, of which it is not yet said that the summaries are met.
 #[tactic(auto, using(posing::proofs::Following::following), unfolding(crate::specs::Close::group_closure))]
 fn group_closure<O: Oracle>(
     alloc: Global,
-    program: &Program,
-    procs: &[u32],
-    known: &[Option<Formula>],
+    group: KnownGroup<'_>,
     linear: bool,
     oracle: &mut O,
     log: &mut Log,
 ) -> Result<Items<Formula>, WorkError>
-    requires formed { IsWellFormed program.now }
-    requires there { All (λ proc. proc < length program.now.procs) procs.now }
-    requires few { length procs.now ≤ length program.now.procs }
-    requires known { AreKnown program.now known.now }
+    requires { IsReadyGroup group }
     ensures follows { Asks O.asking oracle log result
-        (group_closure linear program.now procs.now known.now) }
-    ensures known { IfOk result (AreKnownMembers program.now procs.now) }
+        (group_closure linear group.entry.program.now group.entry.procs.now
+        group.entry.known.now) }
+    ensures known { IfOk result
+        (AreKnownMembers group.entry.program.now group.entry.procs.now) }
 {
-    let bases = bases_of(alloc, program, procs, known, oracle, log)?;
+    let bases = bases_of(alloc, group, oracle, log)?;
     let bases = bases.as_slice();
     if linear {
-        closure_of(alloc, program, procs, known, bases, &[], oracle, log)
+        closure_of(alloc, group, bases, &[], oracle, log)
     } else {
-        closure_by_rounds(alloc, program, procs, known, bases, oracle, log)
+        closure_by_rounds(alloc, group, bases, oracle, log)
     }
 }
 
@@ -85,85 +90,63 @@ fn group_closure<O: Oracle>(
 #[tactic(auto, using(posing::proofs::Following::following), unfolding(crate::specs::Close::closure_by_rounds))]
 fn closure_by_rounds<O: Oracle>(
     alloc: Global,
-    program: &Program,
-    procs: &[u32],
-    known: &[Option<Formula>],
+    group: KnownGroup<'_>,
     bases: &[Formula],
     oracle: &mut O,
     log: &mut Log,
 ) -> Result<Items<Formula>, WorkError>
-    requires formed { IsWellFormed program.now }
-    requires there { All (λ proc. proc < length program.now.procs) procs.now }
-    requires few { length procs.now ≤ length program.now.procs }
-    requires known { AreKnown program.now known.now }
-    requires bases { AreBases (ends_of_members program.now procs.now) bases.now }
+    requires group { IsReadyGroup group }
+    requires bases { AreBases group.members.now bases.now }
     ensures follows { Asks O.asking oracle log result
-        (closure_by_rounds program.now procs.now known.now bases.now) }
-    ensures fits { IfOk result (AreSummaries (ends_of_members program.now procs.now)) }
+        (closure_by_rounds group.entry.program.now group.entry.procs.now group.entry.known.now
+        bases.now) }
+    ensures fits { IfOk result (AreSummaries group.entry.members.now) }
 {
-    let members = ends_of_members(alloc, program, procs)?;
-    let members = members.as_slice();
-    let first = closure_of(alloc, program, procs, known, bases, &[], oracle, log)?;
-    let table = first.as_slice();
-    rounds_after(
-        alloc, program, procs, members, known, bases, table, oracle, log,
-    )
+    let first = closure_of(alloc, group, bases, &[], oracle, log)?;
+    rounds_after(alloc, group, bases, first.as_slice(), oracle, log)
 }
 
 /// What the last round on the candidates of the closure of a table leaves.
 #[tactic(auto, using(posing::proofs::Following::following), unfolding(crate::specs::Close::rounds_after))]
 fn rounds_after<O: Oracle>(
     alloc: Global,
-    program: &Program,
-    procs: &[u32],
-    members: &[PairEnds],
-    known: &[Option<Formula>],
+    group: KnownGroup<'_>,
     bases: &[Formula],
     table: &[Formula],
     oracle: &mut O,
     log: &mut Log,
 ) -> Result<Items<Formula>, WorkError>
-    requires formed { IsWellFormed program.now }
-    requires there { All (λ proc. proc < length program.now.procs) procs.now }
-    requires few { length procs.now ≤ length program.now.procs }
-    requires members { members.now ≡ ends_of_members program.now procs.now }
-    requires known { AreKnown program.now known.now }
-    requires bases { AreBases (ends_of_members program.now procs.now) bases.now }
-    requires table { FitTable program.now procs.now table.now }
+    requires group { IsReadyGroup group }
+    requires bases { AreBases group.members.now bases.now }
+    requires table { FitTable group.program.now group.procs.now table.now }
     ensures follows { Asks O.asking oracle log result
-        (rounds_after program.now procs.now known.now bases.now table.now) }
-    ensures fits { IfOk result (AreSummaries (ends_of_members program.now procs.now)) }
+        (rounds_after group.entry.program.now group.entry.procs.now group.entry.known.now bases.now
+        table.now) }
+    ensures fits { IfOk result (AreSummaries group.entry.members.now) }
 {
-    let second = closure_of(alloc, program, procs, known, bases, table, oracle, log)?;
-    let second = second.as_slice();
-    rounds_over(alloc, program, procs, members, known, second, oracle, log)
+    let second = closure_of(alloc, group, bases, table, oracle, log)?;
+    rounds_over(alloc, group, second.as_slice(), oracle, log)
 }
 
 /// What the last round on the candidates of a table leaves.
 #[tactic(auto, using(posing::proofs::Following::following), unfolding(crate::specs::Close::rounds_over))]
 fn rounds_over<O: Oracle>(
     alloc: Global,
-    program: &Program,
-    procs: &[u32],
-    members: &[PairEnds],
-    known: &[Option<Formula>],
+    group: KnownGroup<'_>,
     table: &[Formula],
     oracle: &mut O,
     log: &mut Log,
 ) -> Result<Items<Formula>, WorkError>
-    requires formed { IsWellFormed program.now }
-    requires there { All (λ proc. proc < length program.now.procs) procs.now }
-    requires few { length procs.now ≤ length program.now.procs }
-    requires members { members.now ≡ ends_of_members program.now procs.now }
-    requires known { AreKnown program.now known.now }
-    requires table { AreSummaries members.now table.now }
+    requires group { IsReadyGroup group }
+    requires table { AreSummaries group.members.now table.now }
     ensures follows { Asks O.asking oracle log result
-        (rounds_over program.now procs.now known.now table.now) }
-    ensures fits { IfOk result (AreSummaries (ends_of_members program.now procs.now)) }
+        (rounds_over group.entry.program.now group.entry.procs.now group.entry.known.now
+        table.now) }
+    ensures fits { IfOk result (AreSummaries group.entry.members.now) }
 {
-    let candidates = candidates_of(alloc, members, table, oracle, log)?;
-    let end = last_round(alloc, program, procs, known, candidates, oracle, log)?;
-    Ok(summaries_by_round(alloc, program.rule, members, end)?)
+    let candidates = candidates_of(alloc, group.members, table, oracle, log)?;
+    let end = last_round(alloc, group, candidates, oracle, log)?;
+    Ok(summaries_by_round(alloc, group.program.rule, group.members, end)?)
 }
 
 /// Under a rule with phases the formulas that the last round made, else the candidates as formulas.

@@ -12,6 +12,7 @@ mod dropping;
 mod ends;
 mod exits;
 mod findings;
+mod group;
 mod laws;
 mod linear;
 mod pairs;

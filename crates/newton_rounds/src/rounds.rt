@@ -1,4 +1,4 @@
-ghost use Rattle.std.specs.Prelude.{◌≡◌, ◌<◌, ◌≤◌, ◌+◌, ◌^◌, [], All, length, map, IfOk};
+ghost use Rattle.std.specs.Prelude.{◌≡◌, ◌<◌, ◌+◌, ◌^◌, [], length, map, IfOk};
 ghost use Rattle.std.specs.List.{AllByRecursion, filter_map};
 ghost use Rattle.syntax_tree.specs.WellFormed.{IsWellFormed};
 ghost use Rattle.syntax_tree.specs.declared.program.Proc.{Proc as Procedure};
@@ -8,16 +8,17 @@ ghost use Rattle.posing.specs.Posing.{each};
 ghost use Rattle.vocabularies.specs.Procs.{IsProcOf};
 ghost use Rattle.leaf_cases.specs.Conditions.{AreKnown, IsKnown};
 ghost use Rattle.newton_rounds.specs.Candidates.{dropped_notes, end_of_round, judgements_and, kept_row, last_round, members_with, no_judgements, round, some_note, table_of, unfolded_formula, with_judged, with_round};
-ghost use Rattle.newton_rounds.specs.Closure.{ends_of_members, pair_ends};
+ghost use Rattle.newton_rounds.specs.Closure.{pair_ends};
+ghost use Rattle.newton_rounds.specs.Groups.{IsReadyGroup};
 ghost use Rattle.newton_rounds.specs.Members.{members_of, with_table};
-ghost use Rattle.newton_rounds.specs.Between.{AreCandidates, AreSummaries, IsFewer, IsMember, IsRowOver};
+ghost use Rattle.newton_rounds.specs.Between.{AreCandidates, AreSummaries, IsFewer, IsRowOver};
 ghost use Rattle.newton_rounds.specs.Shapes.{IsRefutable};
 
 use crate::candidates::table_of;
 use crate::dropping::{JudgedRow, dropped_notes, kept_rows};
-use crate::ends::{PairEnds, ends_of_members};
 use crate::exits::exit_from;
 use crate::findings::{Judgements, RoundEnd};
+use crate::group::KnownGroup;
 use crate::refuting::refutation;
 use crate::tables::with_table;
 use farkas_check::Oracle;
@@ -32,42 +33,26 @@ use transition_formula::{Formula, FormulaError};
 /// The end of the last round, after rounds until none drops a row.
 pub(crate) fn last_round<O: Oracle>(
     alloc: Global,
-    program: &Program,
-    procs: &[u32],
-    known: &[Option<Formula>],
+    group: KnownGroup<'_>,
     candidates: Items<Items<Row>>,
     oracle: &mut O,
     log: &mut Log,
 ) -> Result<RoundEnd, WorkError>
-    requires formed { IsWellFormed program.now }
-    requires there { All (λ proc. proc < length program.now.procs) procs.now }
-    requires few { length procs.now ≤ length program.now.procs }
-    requires known { AreKnown program.now known.now }
-    requires candidates { AreCandidates (ends_of_members program.now procs.now) candidates }
+    requires group { IsReadyGroup group }
+    requires candidates { AreCandidates group.members.now candidates }
     ensures follows { Asks O.asking oracle log result
-        (last_round program.now procs.now known.now candidates) }
-    ensures over { IfOk result
-        (λ end. AreCandidates (ends_of_members program.now procs.now) end.candidates) }
-    ensures fits { IfOk result
-        (λ end. AreSummaries (ends_of_members program.now procs.now) end.formulas) }
+        (last_round group.entry.program.now group.entry.procs.now group.entry.known.now
+        candidates) }
+    ensures over { IfOk result (λ end. AreCandidates group.entry.members.now end.candidates) }
+    ensures fits { IfOk result (λ end. AreSummaries group.entry.members.now end.formulas) }
 {
-    let members = ends_of_members(alloc, program, procs)?;
     let mut left = RoundEnd {
         candidates,
         formulas: Items::new(alloc),
     };
     let mut dropped = true;
     while dropped {
-        let (next, more) = round(
-            alloc,
-            program,
-            procs,
-            members.as_slice(),
-            known,
-            left.candidates.as_slice(),
-            oracle,
-            log,
-        )?;
+        let (next, more) = round(alloc, group, left.candidates.as_slice(), oracle, log)?;
         left = next;
         dropped = more;
     }
@@ -78,47 +63,41 @@ pub(crate) fn last_round<O: Oracle>(
 #[tactic(auto, using(posing::proofs::Following::following), unfolding(crate::specs::Candidates::round))]
 fn round<O: Oracle>(
     alloc: Global,
-    program: &Program,
-    procs: &[u32],
-    members: &[PairEnds],
-    known: &[Option<Formula>],
+    group: KnownGroup<'_>,
     candidates: &[Items<Row>],
     oracle: &mut O,
     log: &mut Log,
 ) -> Result<(RoundEnd, bool), WorkError>
-    requires formed { IsWellFormed program.now }
-    requires there { All (λ proc. proc < length program.now.procs) procs.now }
-    requires few { length procs.now ≤ length program.now.procs }
-    requires members { members.now ≡ ends_of_members program.now procs.now }
-    requires known { AreKnown program.now known.now }
-    requires candidates { AreCandidates members.now candidates.now }
+    requires group { IsReadyGroup group }
+    requires candidates { AreCandidates group.members.now candidates.now }
     ensures follows { Asks O.asking oracle log result
-        (round program.now procs.now known.now candidates.now) }
-    ensures over { IfOk result (λ next. AreCandidates members.now next.0.candidates) }
+        (round group.entry.program.now group.entry.procs.now group.entry.known.now
+        candidates.now) }
+    ensures over { IfOk result (λ next. AreCandidates group.entry.members.now next.0.candidates) }
     ensures fewer { IfOk result (λ next. IsFewer candidates.now next) }
 {
-    let all = known_formulas_with(alloc, procs, members, known, candidates)?;
-    let all = all.as_slice();
-    let judged = judgements_in(alloc, program, procs, all, candidates, oracle, log)?;
+    let all = known_formulas_with(alloc, group, candidates)?;
+    let known = all.as_slice();
+    let group = KnownGroup { known, ..group };
+    let judged = judgements_in(alloc, group, candidates, oracle, log)?;
     Ok(round_end(alloc, judged, log)?)
 }
 
 /// The known formulas, with those of the candidates.
 fn known_formulas_with(
     alloc: Global,
-    procs: &[u32],
-    members: &[PairEnds],
-    known: &[Option<Formula>],
+    group: KnownGroup<'_>,
     candidates: &[Items<Row>],
 ) -> Result<Items<Option<Formula>>, FormulaError>
-    requires procs { All (λ proc. proc < length known.now) procs.now }
-    requires members { AllByRecursion IsMember members.now }
-    requires candidates { AreCandidates members.now candidates.now }
+    requires group { IsReadyGroup group }
+    requires candidates { AreCandidates group.members.now candidates.now }
     ensures { IfOk result
-        (λ all. all ≡ with_table procs.now (table_of members.now candidates.now) known.now) }
+        (λ all. all
+        ≡ with_table group.entry.procs.now (table_of group.entry.members.now candidates.now)
+        group.entry.known.now) }
 {
-    let table = table_of(alloc, members, candidates)?;
-    Ok(with_table(alloc, procs, table.as_slice(), known)?)
+    let table = table_of(alloc, group.members, candidates)?;
+    Ok(with_table(alloc, group.procs, table.as_slice(), group.known)?)
 }
 
 /// The rows that are left with the formulas by which they were judged, and whether any was dropped.
@@ -166,26 +145,22 @@ fn rows_left(
 #[tactic(auto, using(posing::proofs::Following::following))]
 fn judgements_in<O: Oracle>(
     alloc: Global,
-    program: &Program,
-    procs: &[u32],
-    known: &[Option<Formula>],
+    group: KnownGroup<'_>,
     candidates: &[Items<Row>],
     oracle: &mut O,
     log: &mut Log,
 ) -> Result<Judgements, WorkError>
-    requires formed { IsWellFormed program.now }
-    requires there { All (λ proc. proc < length program.now.procs) procs.now }
-    requires known { AreKnown program.now known.now }
-    requires candidates { AreCandidates (ends_of_members program.now procs.now) candidates.now }
+    requires group { IsReadyGroup group }
+    requires candidates { AreCandidates group.members.now candidates.now }
     ensures { Asks O.asking oracle log result
-        (each (with_round program.now known.now) no_judgements
-        (members_with (members_of program.now procs.now) candidates.now)) }
+        (each (with_round group.entry.program.now group.entry.known.now) no_judgements
+        (members_with (members_of group.entry.program.now group.entry.procs.now)
+        candidates.now)) }
 {
     let mut made = no_judgements(alloc);
     for (place, rows) in candidates.iter().enumerate() {
-        let proc = procs[place];
-        let rows = rows.as_slice();
-        made = with_round(alloc, program, known, made, proc, rows, oracle, log)?;
+        let proc = group.procs[place];
+        made = with_round(alloc, group, made, proc, rows.as_slice(), oracle, log)?;
     }
     Ok(made)
 }
@@ -203,23 +178,22 @@ fn no_judgements(alloc: Global) -> Judgements
 #[tactic(auto, using(posing::proofs::Following::following), unfolding(crate::specs::Candidates::with_round))]
 fn with_round<O: Oracle>(
     alloc: Global,
-    program: &Program,
-    known: &[Option<Formula>],
+    group: KnownGroup<'_>,
     made: Judgements,
     proc: u32,
     rows: &[Row],
     oracle: &mut O,
     log: &mut Log,
 ) -> Result<Judgements, WorkError>
-    requires formed { IsWellFormed program.now }
-    requires procedure { proc < length program.now.procs }
-    requires known { AreKnown program.now known.now }
-    requires rows { (p : Procedure) → IsProcOf program.now proc p
-        → AllByRecursion (IsRowOver (pair_ends program.now p).pair.columns) rows.now }
-    ensures { (p : Procedure) → IsProcOf program.now proc p
-        → Asks O.asking oracle log result (with_round program.now known.now made (p, rows.now)) }
+    requires group { IsReadyGroup group }
+    requires procedure { proc < length group.program.now.procs }
+    requires rows { (p : Procedure) → IsProcOf group.program.now proc p
+        → AllByRecursion (IsRowOver (pair_ends group.program.now p).pair.columns) rows.now }
+    ensures { (p : Procedure) → IsProcOf group.entry.program.now proc p
+        → Asks O.asking oracle log result
+        (with_round group.entry.program.now group.entry.known.now made (p, rows.now)) }
 {
-    let f = unfolded_formula(alloc, program, proc, known, oracle, log)?;
+    let f = unfolded_formula(alloc, group.program, proc, group.known, oracle, log)?;
     let judged = judgements_by(alloc, &f, rows, oracle, log)?;
     Ok(judgements_and(made, f, judged)?)
 }

@@ -13,6 +13,15 @@ use crate::steps::{join_both, path_with_turns, seq};
 use crate::table::Table;
 use std::alloc::Global;
 
+/// How a place is reached from those below it.
+#[derive(Drop)]
+struct Approach<'a, I> {
+    /// The paths between two places.
+    table: &'a Table<I>,
+    /// Turns at the place.
+    turn: &'a Option<I>,
+}
+
 /// A path, then a step, then turns.
 fn through_path<A: Algebra>(
     alloc: Global,
@@ -74,22 +83,23 @@ fn through<A: Algebra>(
 fn arrive_by<A: Algebra>(
     alloc: Global,
     algebra: &mut A,
-    table: &Table<A::Item>,
+    approach: &Approach<A::Item>,
     way: &Cell<A::Item>,
-    turn: &Option<A::Item>,
     before: Option<A::Item>,
     p: u32,
     n: u32,
 ) -> Result<Option<A::Item>, ReachError<A::Fault>>
     requires { (source : ℕ) × (f : ℕ → ℕ → PathExpr) × (w : PathExpr) × (b : PathExpr)
-        × HoldsAll A.fits A.spans source algebra.old f table.now
+        × HoldsAll A.fits A.spans source algebra.old f approach.now.table.now
         × IsWay A.fits A.spans algebra.old w way.now (node_at source 0) (node_at source p)
-        × IsItemOrOne A.fits A.spans algebra.old (star_of (f n n)) turn.now (node_at source n)
+        × IsItemOrOne A.fits A.spans algebra.old (star_of (f n n)) approach.now.turn.now
+        (node_at source n)
         × IsItemOrZero A.fits A.spans algebra.old b before (node_at source 0) (node_at source n) }
     ensures made { (source : ℕ) (f : ℕ → ℕ → PathExpr) (w b : PathExpr)
-        → HoldsAll A.fits A.spans source algebra.old f table.now →
+        → HoldsAll A.fits A.spans source algebra.old f approach.now.table.now →
         IsWay A.fits A.spans algebra.old w way.now (node_at source 0) (node_at source p) →
-        IsItemOrOne A.fits A.spans algebra.old (star_of (f n n)) turn.now (node_at source n) →
+        IsItemOrOne A.fits A.spans algebra.old (star_of (f n n)) approach.now.turn.now
+        (node_at source n) →
         IsItemOrZero A.fits A.spans algebra.old b before (node_at source 0) (node_at source n) →
         Makes A.fits A.spans A.ends A.is_memory A.faults A.made A.stopped algebra.old algebra.new
         (arrival_operations f n w p b) result
@@ -97,10 +107,10 @@ fn arrive_by<A: Algebra>(
         (join_of b (seq_of (seq_of w (f p n)) (star_of (f n n)))) path (node_at source 0)
         (node_at source n)) }
 {
-    let Some(step) = table.get(p, n) else {
+    let Some(step) = approach.table.get(p, n) else {
         return Ok(before);
     };
-    let path = through(alloc, algebra, way, step, turn)?;
+    let path = through(alloc, algebra, way, step, approach.turn)?;
     join_both(alloc, algebra, before, path)
 }
 
@@ -108,20 +118,21 @@ fn arrive_by<A: Algebra>(
 fn arrive<A: Algebra>(
     alloc: Global,
     algebra: &mut A,
-    table: &Table<A::Item>,
+    approach: &Approach<A::Item>,
     found: &[Cell<A::Item>],
-    turn: &Option<A::Item>,
     n: u32,
 ) -> Result<Option<A::Item>, ReachError<A::Fault>>
     requires below { length found.now ≡ n }
     requires holds { (source : ℕ) × (f : ℕ → ℕ → PathExpr)
-        × HoldsAll A.fits A.spans source algebra.old f table.now
+        × HoldsAll A.fits A.spans source algebra.old f approach.now.table.now
         × AreWays A.fits A.spans source algebra.old (way_at f) found.now
-        × IsItemOrOne A.fits A.spans algebra.old (star_of (f n n)) turn.now (node_at source n) }
+        × IsItemOrOne A.fits A.spans algebra.old (star_of (f n n)) approach.now.turn.now
+        (node_at source n) }
     ensures made { (source : ℕ) (f : ℕ → ℕ → PathExpr)
-        → HoldsAll A.fits A.spans source algebra.old f table.now →
+        → HoldsAll A.fits A.spans source algebra.old f approach.now.table.now →
         AreWays A.fits A.spans source algebra.old (way_at f) found.now →
-        IsItemOrOne A.fits A.spans algebra.old (star_of (f n n)) turn.now (node_at source n) →
+        IsItemOrOne A.fits A.spans algebra.old (star_of (f n n)) approach.now.turn.now
+        (node_at source n) →
         Makes A.fits A.spans A.ends A.is_memory A.faults A.made A.stopped algebra.old algebra.new
         (arrivals_operations f n (ways f n) 0 Zero) result
         (λ path. IsItemOrZero A.fits A.spans algebra.new (arrivals f n (ways f n) 0 Zero) path
@@ -129,8 +140,8 @@ fn arrive<A: Algebra>(
 {
     let mut total = None;
     let mut from = 0;
-    while let Some(p) = table.next_into(n, from) {
-        total = arrive_by(alloc, algebra, table, &found[p as usize], turn, total, p, n)?;
+    while let Some(p) = approach.table.next_into(n, from) {
+        total = arrive_by(alloc, algebra, approach, &found[p as usize], total, p, n)?;
         from = p + 1;
     }
     Ok(total)
@@ -164,7 +175,8 @@ fn later_way<A: Algebra>(
         (node_at source 0) (node_at source n)) }
 {
     let turn = stars.take(n, n);
-    match arrive(alloc, algebra, table, found, &turn, n) {
+    let approach = Approach { table, turn: &turn };
+    match arrive(alloc, algebra, &approach, found, n) {
         Ok(Some(path)) => Ok(Cell::Item(path)),
         Ok(None) => Ok(Cell::Zero),
         Err(error) => Err(error),

@@ -26,6 +26,38 @@ use items::Items;
 use linear_terms::{Case, Col, Kind, Poly, Row, TermError, difference, mul, subst};
 use std::alloc::{AllocError, Global};
 use std::mem;
+use transition_formula::Formula;
+
+/// The changes of the variables of a formula, and what stands for them in rows.
+#[derive(Clone, Copy)]
+pub struct Displacement<'a> {
+    /// A formula both of whose ends have one vocabulary.
+    pub f: &'a Formula,
+    /// What stands for the change of each variable in a row.
+    pub moved: &'a [Poly],
+    /// The column that says how often a bound is taken; once where there is none.
+    pub turns: Option<Col>,
+}
+
+/// The posts of cases, and what stands for them in rows.
+#[derive(Clone, Copy)]
+struct Posts<'a> {
+    cases: &'a [Case],
+    /// What stands for each post in a row.
+    after: &'a [Poly],
+}
+
+/// The changes of the variables of cases, and what stands for them in rows.
+#[derive(Clone, Copy)]
+struct Changes<'a> {
+    cases: &'a [Case],
+    /// The changes of the variables of each case.
+    tables: &'a [Moves],
+    /// What stands for the change of each variable in a row.
+    moved: &'a [Poly],
+    /// The column that says how often a bound is taken; once where there is none.
+    turns: Option<Col>,
+}
 
 // ---- the greatest value of an objective
 
@@ -241,10 +273,11 @@ pub fn bounds_after<O: Oracle>(
     ensures { Asks O.asking oracle log result
         (each (rows_with_exit_bound cases.now after.now) rows directions.now) }
 {
+    let posts = Posts { cases, after };
     let mut goals = goals_over(alloc, cases)?;
     let mut made = rows;
     for d in directions {
-        made = bound_after(alloc, made, cases, &mut goals, after, d, oracle, log)?;
+        made = bound_after(alloc, made, posts, &mut goals, d, oracle, log)?;
     }
     Ok(made)
 }
@@ -252,26 +285,25 @@ pub fn bounds_after<O: Oracle>(
 fn bound_after<O: Oracle>(
     alloc: Global,
     rows: Items<Row>,
-    cases: &[Case],
+    posts: Posts,
     goals: &mut Items<Goal>,
-    after: &[Poly],
     d: &Poly,
     oracle: &mut O,
     log: &mut Log,
 ) -> Result<Items<Row>, WorkError>
-    requires posts { IsCoveredByPosts cases.now d.now }
-    requires rows { IsCovered (length after.now) d.now }
-    requires goals { AreOver cases.now goals.old }
+    requires posts { IsCoveredByPosts posts.cases.now d.now }
+    requires rows { IsCovered (length posts.after.now) d.now }
+    requires goals { AreOver posts.cases.now goals.old }
     ensures follows { Asks O.asking oracle log result
-        (rows_with_exit_bound cases.now after.now rows d.now) }
-    ensures goals { AreOver cases.now goals.new }
+        (rows_with_exit_bound posts.entry.cases.now posts.entry.after.now rows d.now) }
+    ensures goals { AreOver posts.entry.cases.now goals.new }
 {
-    let objectives = objectives_after(alloc, cases, d);
+    let objectives = objectives_after(alloc, posts.cases, d);
     let bound = bound_over(alloc, goals, objectives, oracle, log)?;
     match &bound {
         None => Ok(rows),
         Some(most) => {
-            let row = after_row(alloc, after, d, most);
+            let row = after_row(alloc, posts.after, d, most);
             Ok(with_row(alloc, rows, row, log)?)
         }
     }
@@ -299,36 +331,34 @@ fn after_row(alloc: Global, after: &[Poly], d: &Poly, most: &i128) -> Result<Row
 
 // ---- bounds on changes
 
-/// Each direction's greatest value on the changes of the first `to` variables is asked, where both
-/// ends have one vocabulary; where there is one, it gives a row behind the others, in which `moved`
-/// has what stands for each change. The change is at most the bound, or so many times the bound as
-/// the column `turns` says.
+/// Each direction's greatest value on the changes of the variables is asked; where there is one, it
+/// gives a row behind the others.
 pub fn bounds_on_changes<O: Oracle>(
     alloc: Global,
     rows: Items<Row>,
-    cases: &[Case],
-    to: u32,
-    moved: &[Poly],
-    turns: Option<Col>,
+    by: Displacement,
     directions: &[Poly],
     oracle: &mut O,
     log: &mut Log,
 ) -> Result<Items<Row>, WorkError>
-    requires posts { All (λ case. length case.post ≡ to) cases.now }
-    requires columns { All (IsCovered to) directions.now }
-    requires rows { All (IsCovered (length moved.now)) directions.now }
+    requires columns { All (IsCovered by.f.now.to) directions.now }
+    requires rows { All (IsCovered (length by.moved.now)) directions.now }
     ensures { Asks O.asking oracle log result
-        (each (bounded_change cases.now moved.now turns) rows directions.now) }
+        (each (bounded_change by.entry.f.now.cases by.entry.moved.now by.entry.turns) rows
+        directions.now) }
 {
-    let tables = tables_of(alloc, true, cases, to)?;
+    let cases = by.f.cases();
+    let tables = tables_of(alloc, true, cases, by.f.to())?;
+    let changes = Changes {
+        cases,
+        tables: tables.as_slice(),
+        moved: by.moved,
+        turns: by.turns,
+    };
     let mut goals = goals_over(alloc, cases)?;
     let mut made = rows;
     for d in directions {
-        let tables = tables.as_slice();
-        let goals = &mut goals;
-        made = bound_on_changes(
-            alloc, made, cases, goals, tables, moved, turns, d, oracle, log,
-        )?;
+        made = bound_on_changes(alloc, made, changes, &mut goals, d, oracle, log)?;
     }
     Ok(made)
 }
@@ -336,28 +366,26 @@ pub fn bounds_on_changes<O: Oracle>(
 fn bound_on_changes<O: Oracle>(
     alloc: Global,
     rows: Items<Row>,
-    cases: &[Case],
+    changes: Changes,
     goals: &mut Items<Goal>,
-    tables: &[Moves],
-    moved: &[Poly],
-    turns: Option<Col>,
     d: &Poly,
     oracle: &mut O,
     log: &mut Log,
 ) -> Result<Items<Row>, WorkError>
-    requires tables { AreTables cases.now tables.now d.now }
-    requires rows { IsCovered (length moved.now) d.now }
-    requires goals { AreOver cases.now goals.old }
+    requires tables { AreTables changes.cases.now changes.tables.now d.now }
+    requires rows { IsCovered (length changes.moved.now) d.now }
+    requires goals { AreOver changes.cases.now goals.old }
     ensures follows { Asks O.asking oracle log result
-        (bounded_change cases.now moved.now turns rows d.now) }
-    ensures goals { AreOver cases.now goals.new }
+        (bounded_change changes.entry.cases.now changes.entry.moved.now changes.entry.turns rows
+        d.now) }
+    ensures goals { AreOver changes.entry.cases.now goals.new }
 {
-    let objectives = objectives_on_changes(alloc, cases, tables, d);
+    let objectives = objectives_on_changes(alloc, changes, d);
     let bound = bound_over(alloc, goals, objectives, oracle, log)?;
     match &bound {
         None => Ok(rows),
         Some(most) => {
-            let row = change_row(alloc, moved, turns, d, most);
+            let row = change_row(alloc, changes, d, most);
             Ok(with_row(alloc, rows, row, log)?)
         }
     }
@@ -365,33 +393,28 @@ fn bound_on_changes<O: Oracle>(
 
 fn objectives_on_changes(
     alloc: Global,
-    cases: &[Case],
-    tables: &[Moves],
+    changes: Changes,
     d: &Poly,
 ) -> Result<Items<Poly>, TermError>
-    requires { AreTables cases.now tables.now d.now }
+    requires { AreTables changes.cases.now changes.tables.now d.now }
     ensures { Gives cause (λ ps. ps) result
-        (objectives_of (λ case. put_into (for_entries (change true case)) d.now) cases.now) }
+        (objectives_of (λ case. put_into (for_entries (change true case)) d.now)
+        changes.entry.cases.now) }
 {
     let mut objectives = Items::new(alloc);
-    for (place, _case) in cases.iter().enumerate() {
-        objectives.push(objective(alloc, &tables[place], d)?)?;
+    for (place, _case) in changes.cases.iter().enumerate() {
+        objectives.push(objective(alloc, &changes.tables[place], d)?)?;
     }
     Ok(objectives)
 }
 
-fn change_row(
-    alloc: Global,
-    moved: &[Poly],
-    turns: Option<Col>,
-    d: &Poly,
-    most: &i128,
-) -> Result<Row, TermError>
-    requires { IsCovered (length moved.now) d.now }
-    ensures { Gives cause (λ r. r) result (change_row moved.now turns d.now most.now) }
+fn change_row(alloc: Global, changes: Changes, d: &Poly, most: &i128) -> Result<Row, TermError>
+    requires { IsCovered (length changes.moved.now) d.now }
+    ensures { Gives cause (λ r. r) result
+        (change_row changes.entry.moved.now changes.entry.turns d.now most.now) }
 {
-    let left = put_in_for(alloc, moved, d)?;
-    let right = so_often(alloc, turns, Poly::constant(alloc, *most))?;
+    let left = put_in_for(alloc, changes.moved, d)?;
+    let right = so_often(alloc, changes.turns, Poly::constant(alloc, *most))?;
     at_most(alloc, &left, &right)
 }
 

@@ -17,14 +17,35 @@ ghost use Rattle.polyhedra.specs.Squash.{are_same, change_after, entries_of, pos
 use crate::after::{changes_after, changes_of_some, entries_of, posts_after};
 use crate::finishing::told_count;
 use crate::{
-    Log, Movement, Note, Vocabulary, WorkError, bounds_after, bounds_before, bounds_on_changes,
-    directions, finish, movement_of, relation_rows, relations_of,
+    Displacement, Log, Movement, Note, Vocabulary, WorkError, bounds_after, bounds_before,
+    bounds_on_changes, directions, finish, movement_of, relation_rows, relations_of,
 };
 use farkas_check::{Change, Oracle, Relation, Stratum};
 use items::Items;
 use linear_terms::{Case, Poly, Row};
 use std::alloc::{AllocError, Global};
 use transition_formula::Formula;
+
+/// A formula that becomes one case, and the vocabularies that it goes between.
+#[derive(Clone, Copy)]
+struct Fitting<'a> {
+    /// Whether both ends have one vocabulary.
+    one: bool,
+    f: &'a Formula,
+    from: &'a Vocabulary,
+    to: &'a Vocabulary,
+}
+
+/// The columns that relations between changes speak of.
+#[derive(Clone, Copy)]
+struct Variables<'a> {
+    /// The variables whose change is not zero, or cannot be made, in some case.
+    modified: &'a [u32],
+    /// Those of them whose change can be made in each case.
+    moving: &'a [u32],
+    /// The entry columns that occur.
+    occurring: &'a [u32],
+}
 
 /// The formula, if it has at most 16 cases, each of at most 64 rows and 64 auxiliaries; else one
 /// case that holds of all that it holds of, from relations and bounds that the answers give. It
@@ -116,7 +137,8 @@ fn squash<O: Oracle>(
     ensures { Asks O.asking oracle log result (squashed_formula f.now from.now to.now) }
 {
     let one = from.same(to);
-    let case = squashed_case(alloc, one, f, from, to, oracle, log)?;
+    let fitting = Fitting { one, f, from, to };
+    let case = squashed_case(alloc, fitting, oracle, log)?;
     let left = finish(alloc, &case, oracle, log)?;
     let cases = cases_of(alloc, left)?;
     Ok(Formula::from_cases(f.from(), f.to(), cases))
@@ -132,43 +154,46 @@ fn cases_of(alloc: Global, left: Option<Case>) -> Result<Items<Case>, AllocError
     Ok(cases)
 }
 
-/// The one case as it is put together; `one` says whether both ends have one vocabulary.
+/// The one case as it is put together.
 #[tactic(auto, using(posing::proofs::Following::following), unfolding(crate::specs::Squash::squashed_case))]
 fn squashed_case<O: Oracle>(
     alloc: Global,
-    one: bool,
-    f: &Formula,
-    from: &Vocabulary,
-    to: &Vocabulary,
+    fitting: Fitting,
     oracle: &mut O,
     log: &mut Log,
 ) -> Result<Case, WorkError>
-    requires between { IsBetween f.now from.now to.now }
-    requires one { one ≡ are_same from.now to.now }
-    ensures { Asks O.asking oracle log result (squashed_case one f.now from.now to.now) }
+    requires between { IsBetween fitting.f.now fitting.from.now fitting.to.now }
+    requires one { fitting.one ≡ are_same fitting.from.now fitting.to.now }
+    ensures { Asks O.asking oracle log result
+        (squashed_case fitting.entry.one fitting.entry.f.now fitting.entry.from.now
+        fitting.entry.to.now) }
 {
-    let movement = movement_of(alloc, one, f)?;
+    let movement = movement_of(alloc, fitting.one, fitting.f)?;
     let aux = movement.modified.len() as u32;
-    let post = noted_posts(alloc, one, f, &movement, log)?;
-    let rows = squash_rows(alloc, one, f, movement, from, to, oracle, log)?;
+    let post = noted_posts(alloc, fitting, &movement, log)?;
+    let rows = squash_rows(alloc, fitting, movement, oracle, log)?;
     Ok(Case { aux, rows, post })
 }
 
 /// What stands for each variable afterwards; losses of changes are noted.
 fn noted_posts(
     alloc: Global,
-    one: bool,
-    f: &Formula,
+    fitting: Fitting,
     movement: &Movement,
     log: &mut Log,
 ) -> Result<Items<Poly>, AllocError>
     requires few { length movement.now.modified < 2 ^ 32 }
-    requires modified { movement.now.modified ≡ changes.modified_variables one f.now }
-    requires lost { loss_notes movement.now.lost ≡ changes.lost_changes one f.now }
-    ensures noted { Adds (changes.lost_changes one f.now) log.old log.new result }
-    ensures exact { IfOk result (λ posts. posts ≡ posts_after one f.now) }
+    requires modified { movement.now.modified
+        ≡ changes.modified_variables fitting.one fitting.f.now }
+    requires lost { loss_notes movement.now.lost
+        ≡ changes.lost_changes fitting.one fitting.f.now }
+    ensures noted { Adds (changes.lost_changes fitting.entry.one fitting.entry.f.now) log.old
+        log.new result }
+    ensures exact { IfOk result
+        (λ posts. posts ≡ posts_after fitting.entry.one fitting.entry.f.now) }
 {
-    let posts = posts_after(alloc, one, movement.modified.as_slice(), f.to())?;
+    let modified = movement.modified.as_slice();
+    let posts = posts_after(alloc, fitting.one, modified, fitting.f.to())?;
     log.add_losses(alloc, movement.lost.as_slice())?;
     Ok(posts)
 }
@@ -177,21 +202,20 @@ fn noted_posts(
 #[tactic(auto, using(posing::proofs::Following::following), unfolding(crate::specs::Squash::squash_rows))]
 fn squash_rows<O: Oracle>(
     alloc: Global,
-    one: bool,
-    f: &Formula,
+    fitting: Fitting,
     movement: Movement,
-    from: &Vocabulary,
-    to: &Vocabulary,
     oracle: &mut O,
     log: &mut Log,
 ) -> Result<Items<Row>, WorkError>
-    requires between { IsBetween f.now from.now to.now }
-    requires one { one ≡ are_same from.now to.now }
-    requires modified { movement.modified ≡ changes.modified_variables one f.now }
-    requires moving { movement.moving ≡ changes.moving one f.now }
-    requires cases { movement.cases ≡ changes.changes_of one f.now }
-    requires occurring { movement.occurring ≡ changes.occurring one f.now }
-    ensures { Asks O.asking oracle log result (squash_rows one f.now from.now to.now) }
+    requires between { IsBetween fitting.f.now fitting.from.now fitting.to.now }
+    requires one { fitting.one ≡ are_same fitting.from.now fitting.to.now }
+    requires modified { movement.modified ≡ changes.modified_variables fitting.one fitting.f.now }
+    requires moving { movement.moving ≡ changes.moving fitting.one fitting.f.now }
+    requires cases { movement.cases ≡ changes.changes_of fitting.one fitting.f.now }
+    requires occurring { movement.occurring ≡ changes.occurring fitting.one fitting.f.now }
+    ensures { Asks O.asking oracle log result
+        (squash_rows fitting.entry.one fitting.entry.f.now fitting.entry.from.now
+        fitting.entry.to.now) }
 {
     let Movement {
         modified,
@@ -200,57 +224,41 @@ fn squash_rows<O: Oracle>(
         cases,
         occurring,
     } = movement;
-    let equations = change_relations(
-        alloc,
-        one,
-        f,
-        modified.as_slice(),
-        moving.as_slice(),
-        cases,
-        occurring.as_slice(),
-        oracle,
-        log,
-    )?;
-    bounds(
-        alloc,
-        one,
-        f,
-        modified.as_slice(),
-        from,
-        to,
-        equations,
-        oracle,
-        log,
-    )
+    let variables = Variables {
+        modified: modified.as_slice(),
+        moving: moving.as_slice(),
+        occurring: occurring.as_slice(),
+    };
+    let equations = change_relations(alloc, fitting, variables, cases, oracle, log)?;
+    bounds(alloc, fitting, variables.modified, equations, oracle, log)
 }
 
 /// Relations between the changes of variables that can be made and the entry columns that occur.
 #[tactic(auto, using(posing::proofs::Following::following), unfolding(crate::specs::Squash::change_relations))]
 fn change_relations<O: Oracle>(
     alloc: Global,
-    one: bool,
-    f: &Formula,
-    modified: &[u32],
-    moving: &[u32],
+    fitting: Fitting,
+    variables: Variables,
     cases: Items<Change>,
-    occurring: &[u32],
     oracle: &mut O,
     log: &mut Log,
 ) -> Result<Items<Row>, WorkError>
-    requires few { length modified.now < 2 ^ 32 }
-    requires modified { modified.now ≡ changes.modified_variables one f.now }
-    requires moving { moving.now ≡ changes.moving one f.now }
-    requires cases { cases ≡ changes.changes_of one f.now }
-    requires occurring { occurring.now ≡ changes.occurring one f.now }
-    ensures { Asks O.asking oracle log result (change_relations one f.now) }
+    requires few { length variables.modified.now < 2 ^ 32 }
+    requires modified { variables.modified.now
+        ≡ changes.modified_variables fitting.one fitting.f.now }
+    requires moving { variables.moving.now ≡ changes.moving fitting.one fitting.f.now }
+    requires cases { cases ≡ changes.changes_of fitting.one fitting.f.now }
+    requires occurring { variables.occurring.now ≡ changes.occurring fitting.one fitting.f.now }
+    ensures { Asks O.asking oracle log result
+        (change_relations fitting.entry.one fitting.entry.f.now) }
 {
-    let lower = entries_of(alloc, occurring)?;
+    let lower = entries_of(alloc, variables.occurring)?;
     let found = relations_of(alloc, stratum_of(cases, lower), oracle, log)?;
     match found {
         None => Ok(Items::new(alloc)),
         Some(relations) => {
             let relations = relations.as_slice();
-            Ok(related_rows(alloc, one, modified, moving, occurring, relations, log)?)
+            Ok(related_rows(alloc, fitting.one, variables, relations, log)?)
         }
     }
 }
@@ -259,22 +267,22 @@ fn change_relations<O: Oracle>(
 fn related_rows(
     alloc: Global,
     one: bool,
-    modified: &[u32],
-    moving: &[u32],
-    occurring: &[u32],
+    variables: Variables,
     relations: &[Relation],
     log: &mut Log,
 ) -> Result<Items<Row>, AllocError>
-    requires { length modified.now < 2 ^ 32 }
+    requires { length variables.modified.now < 2 ^ 32 }
     ensures noted { Adds
-        (loss_notes (relation_losses (map (change_after one modified.now) moving.now)
-        (entries_of occurring.now) relations.now)) log.old log.new result }
+        (loss_notes (relation_losses
+        (map (change_after one variables.entry.modified.now) variables.entry.moving.now)
+        (entries_of variables.entry.occurring.now) relations.now)) log.old log.new result }
     ensures exact { IfOk result
-        (λ rows. rows ≡ relation_rows (map (change_after one modified.now) moving.now)
-        (entries_of occurring.now) relations.now) }
+        (λ rows. rows ≡ relation_rows
+        (map (change_after one variables.entry.modified.now) variables.entry.moving.now)
+        (entries_of variables.entry.occurring.now) relations.now) }
 {
-    let terms = changes_of_some(alloc, one, modified, moving)?;
-    let lower = entries_of(alloc, occurring)?;
+    let terms = changes_of_some(alloc, one, variables.modified, variables.moving)?;
+    let lower = entries_of(alloc, variables.occurring)?;
     relation_rows(alloc, terms.as_slice(), lower.as_slice(), relations, log)
 }
 
@@ -293,61 +301,51 @@ fn stratum_of(cases: Items<Change>, lower: Items<Poly>) -> Stratum
 #[tactic(auto, using(posing::proofs::Following::following), unfolding(crate::specs::Squash::with_bounds))]
 fn bounds<O: Oracle>(
     alloc: Global,
-    one: bool,
-    f: &Formula,
+    fitting: Fitting,
     modified: &[u32],
-    from: &Vocabulary,
-    to: &Vocabulary,
     rows: Items<Row>,
     oracle: &mut O,
     log: &mut Log,
 ) -> Result<Items<Row>, WorkError>
-    requires between { IsBetween f.now from.now to.now }
-    requires one { one ≡ are_same from.now to.now }
-    requires modified { modified.now ≡ changes.modified_variables one f.now }
-    ensures { Asks O.asking oracle log result (with_bounds one f.now from.now to.now rows) }
+    requires between { IsBetween fitting.f.now fitting.from.now fitting.to.now }
+    requires one { fitting.one ≡ are_same fitting.from.now fitting.to.now }
+    requires modified { modified.now ≡ changes.modified_variables fitting.one fitting.f.now }
+    ensures { Asks O.asking oracle log result
+        (with_bounds fitting.entry.one fitting.entry.f.now fitting.entry.from.now
+        fitting.entry.to.now rows) }
 {
-    let entry = directions(alloc, from)?;
-    let before = bounds_before(alloc, rows, f.cases(), entry.as_slice(), oracle, log)?;
-    let both = exit_bounds(alloc, one, f, modified, to, before, oracle, log)?;
-    differences(
-        alloc,
-        one,
-        f,
-        modified,
-        from,
-        entry.as_slice(),
-        both,
-        oracle,
-        log,
-    )
+    let directions = directions(alloc, fitting.from)?;
+    let entry = directions.as_slice();
+    let before = bounds_before(alloc, rows, fitting.f.cases(), entry, oracle, log)?;
+    let both = exit_bounds(alloc, fitting, modified, before, oracle, log)?;
+    differences(alloc, fitting, modified, entry, both, oracle, log)
 }
 
 /// Bounds after, behind other rows.
 fn exit_bounds<O: Oracle>(
     alloc: Global,
-    one: bool,
-    f: &Formula,
+    fitting: Fitting,
     modified: &[u32],
-    to: &Vocabulary,
     rows: Items<Row>,
     oracle: &mut O,
     log: &mut Log,
 ) -> Result<Items<Row>, WorkError>
-    requires fits { IsTransition f.now.from f.now.to f.now.cases }
-    requires columns { to.now.columns ≡ f.now.to }
-    requires valid { IsVocabulary to.now }
+    requires fits { IsTransition fitting.f.now.from fitting.f.now.to fitting.f.now.cases }
+    requires columns { fitting.to.now.columns ≡ fitting.f.now.to }
+    requires valid { IsVocabulary fitting.to.now }
     requires few { length modified.now < 2 ^ 32 }
-    requires modified { modified.now ≡ changes.modified_variables one f.now }
+    requires modified { modified.now ≡ changes.modified_variables fitting.one fitting.f.now }
     ensures { Asks O.asking oracle log result
-        (each (rows_with_exit_bound f.now.cases (posts_after one f.now)) rows (directions to.now)) }
+        (each (rows_with_exit_bound fitting.entry.f.now.cases
+        (posts_after fitting.entry.one fitting.entry.f.now)) rows
+        (directions fitting.entry.to.now)) }
 {
-    let posts = posts_after(alloc, one, modified, f.to())?;
-    let exit = directions(alloc, to)?;
+    let posts = posts_after(alloc, fitting.one, modified, fitting.f.to())?;
+    let exit = directions(alloc, fitting.to)?;
     bounds_after(
         alloc,
         rows,
-        f.cases(),
+        fitting.f.cases(),
         posts.as_slice(),
         exit.as_slice(),
         oracle,
@@ -358,36 +356,30 @@ fn exit_bounds<O: Oracle>(
 /// Bounds on differences, behind other rows.
 fn differences<O: Oracle>(
     alloc: Global,
-    one: bool,
-    f: &Formula,
+    fitting: Fitting,
     modified: &[u32],
-    from: &Vocabulary,
     entry: &[Poly],
     rows: Items<Row>,
     oracle: &mut O,
     log: &mut Log,
 ) -> Result<Items<Row>, WorkError>
-    requires columns { from.now.columns ≡ f.now.from }
-    requires valid { IsVocabulary from.now }
-    requires ends { one ≡ true → f.now.from ≡ f.now.to }
+    requires columns { fitting.from.now.columns ≡ fitting.f.now.from }
+    requires valid { IsVocabulary fitting.from.now }
+    requires ends { fitting.one ≡ true → fitting.f.now.from ≡ fitting.f.now.to }
     requires few { length modified.now < 2 ^ 32 }
-    requires modified { modified.now ≡ changes.modified_variables one f.now }
-    requires entry { entry.now ≡ directions from.now }
-    ensures { Asks O.asking oracle log result (with_differences one f.now from.now rows) }
+    requires modified { modified.now ≡ changes.modified_variables fitting.one fitting.f.now }
+    requires entry { entry.now ≡ directions fitting.from.now }
+    ensures { Asks O.asking oracle log result
+        (with_differences fitting.entry.one fitting.entry.f.now fitting.entry.from.now rows) }
 {
-    if !one {
+    if !fitting.one {
         return Ok(rows);
     }
-    let moves = changes_after(alloc, true, modified, f.to())?;
-    bounds_on_changes(
-        alloc,
-        rows,
-        f.cases(),
-        f.to(),
-        moves.as_slice(),
-        None,
-        entry,
-        oracle,
-        log,
-    )
+    let moves = changes_after(alloc, true, modified, fitting.f.to())?;
+    let displacement = Displacement {
+        f: fitting.f,
+        moved: moves.as_slice(),
+        turns: None,
+    };
+    bounds_on_changes(alloc, rows, displacement, entry, oracle, log)
 }

@@ -19,7 +19,9 @@ mod variables;
 mod vocabulary;
 
 pub use after::{changes_after, entries_of, posts_after};
-pub use bounds::{bound_by, bounds_after, bounds_before, bounds_on_changes, with_row};
+pub use bounds::{
+    Displacement, bound_by, bounds_after, bounds_before, bounds_on_changes, with_row,
+};
 pub use candidates::directions;
 pub use changes::change;
 pub use finishing::finish;

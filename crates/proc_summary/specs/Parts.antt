@@ -8,18 +8,21 @@ use Rattle.flow_graph.specs.declared.parts.Edge.{Edge}
 use Rattle.flow_graph.specs.declared.parts.Graph.{Graph}
 use Rattle.flow_graph.specs.FlowGraph.{graph_of}
 use Rattle.flow_graph.specs.Plain.{plain, statement_of_act}
-use Rattle.leaf_cases.specs.Conditions.{columns_at, IsActOf}
+use Rattle.leaf_cases.specs.Conditions.{columns_at, AreKnown, IsActOf}
 use Rattle.leaf_cases.specs.Edges.{leaf_of, losses_in_leaf}
 use Rattle.path_expr.specs.declared.cell.Cell.{Cell}
 use Rattle.path_expr.specs.declared.link.Link.{Link}
+use Rattle.syntax_tree.specs.WellFormed.{IsWellFormed}
+use Rattle.syntax_tree.specs.declared.program.Proc.{Proc}
 use Rattle.syntax_tree.specs.declared.program.Program.{Program}
 use Rattle.transition_formula.specs.declared.loss.Loss.{Loss}
 use Rattle.transition_formula.specs.Transition.{Transition, IsTransition, IsFitted}
 use Rattle.checked_tree.specs.Graph as graphs
+use Rattle.proc_summary.specs.declared.edges.OwnGraph.{OwnGraph}
 use Rattle.proc_summary.specs.declared.edges.Parts.{Parts}
 use Rattle.proc_summary.specs.declared.stop.Flow.{Flow}
 use Rattle.proc_summary.specs.declared.stop.NodeFormula.{NodeFormula}
-use Rattle.proc_summary.specs.Subject.{Subject}
+use Rattle.proc_summary.specs.Subject.{Subject, subject_of}
 use Rattle.proc_summary.specs.Flow.{stop_at}
 use Rattle.proc_summary.specs.Summary.{exit_formula}
 
@@ -29,6 +32,17 @@ pub record IsGraphOf (program : Program) (proc : ℕ) (g : Graph) : Type 0 where
   pub same : plain g ≡ graph_of program proc
   pub edges : All (λ edge. (edge.from < g.nodes) × (edge.to < g.nodes)) g.edges
   pub checks : All (λ check. check.node < g.nodes) g.checks
+
+-- the graph of a procedure of the program, and formulas that fit its procedures
+pub record IsOwnGraph (own : OwnGraph) : Type 0 where
+  pub formed : IsWellFormed own.program.now
+  pub procedure : own.proc < length own.program.now.procs
+  pub graph : IsGraphOf own.program.now own.proc own.graph.now
+  pub known : AreKnown own.program.now own.known.now
+
+-- the subject that its procedure is
+abbrev pub own_subject : OwnGraph → Proc → Subject
+own_subject own p = subject_of own.program.now p own.known.now
 
 -- the two nodes of an edge of the made graph, without what it does
 abbrev pub edge_link : Edge → Link

@@ -4,8 +4,7 @@ ghost use Rattle.syntax_tree.specs.WellFormed.{IsWellFormed};
 ghost use Rattle.syntax_tree.specs.declared.program.Proc.{Proc as Procedure};
 ghost use Rattle.vocabularies.specs.Procs.{IsProcOf};
 ghost use Rattle.leaf_cases.specs.Conditions.{AreKnown};
-ghost use Rattle.proc_summary.specs.Subject.{subject_of};
-ghost use Rattle.proc_summary.specs.Parts.{IsGraphOf, edge_link, edge_leaf, losses_in_edge, AreActsOf, IsFit, ArePartsOf};
+ghost use Rattle.proc_summary.specs.Parts.{IsGraphOf, IsOwnGraph, own_subject, edge_link, edge_leaf, losses_in_edge, AreActsOf, IsFit, ArePartsOf};
 
 use flow_graph::{Edge, Graph, graph};
 use items::Items;
@@ -26,6 +25,17 @@ pub(crate) fn graph_of(alloc: Global, program: &Program, proc: u32) -> Result<Gr
     Ok(graph(alloc, program, proc)?)
 }
 
+/// The flow graph of a procedure, and what is known of those that it calls.
+#[derive(Clone, Copy)]
+pub(crate) struct OwnGraph<'a> {
+    pub(crate) program: &'a Program,
+    /// The number of the procedure.
+    pub(crate) proc: u32,
+    pub(crate) graph: &'a Graph,
+    /// The known formulas of procedures.
+    pub(crate) known: &'a [Option<Formula>],
+}
+
 /// The edges of a procedure's graph as links, with the formula of each, what was lost in making
 /// these, and the vocabulary of each node.
 #[derive(Debug, Drop)]
@@ -36,27 +46,18 @@ pub(crate) struct Parts {
     pub(crate) nodes: Items<Vocabulary>,
 }
 
-pub(crate) fn parts_of(
-    alloc: Global,
-    program: &Program,
-    proc: u32,
-    graph: &Graph,
-    known: &[Option<Formula>],
-) -> Result<Parts, FormulaError>
-    requires formed { IsWellFormed program.now }
-    requires procedure { proc < length program.now.procs }
-    requires graph { IsGraphOf program.now proc graph.now }
-    requires known { AreKnown program.now known.now }
-    ensures made { (p : Procedure) → IsProcOf program.now proc p
-        → IfOk result (ArePartsOf (subject_of program.now p known.now)) }
+pub(crate) fn parts_of(alloc: Global, own: OwnGraph) -> Result<Parts, FormulaError>
+    requires { IsOwnGraph own }
+    ensures made { (p : Procedure) → IsProcOf own.entry.program.now own.entry.proc p
+        → IfOk result (ArePartsOf (own_subject own.entry p)) }
     ensures fit { IfOk result (λ parts. AllByRecursion IsFit parts.leaves) }
 {
-    let edges = graph.edges.as_slice();
+    let edges = own.graph.edges.as_slice();
     let mut lost = Items::new(alloc);
-    let leaves = leaves_of(alloc, program, proc, edges, known, &mut lost)?;
+    let leaves = leaves_of(alloc, own.program, own.proc, edges, own.known, &mut lost)?;
     let links = links_of(alloc, edges)?;
-    let full = full(alloc, program, proc)?;
-    let nodes = copies_of(alloc, &full, graph.nodes)?;
+    let full = full(alloc, own.program, own.proc)?;
+    let nodes = copies_of(alloc, &full, own.graph.nodes)?;
     see_fit(leaves.as_slice());
     Ok(Parts {
         links,

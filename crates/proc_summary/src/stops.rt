@@ -12,7 +12,7 @@ ghost use Rattle.proc_summary.specs.Claims.{FitsFlow, FlowHolds, KnowsCallees};
 ghost use Rattle.proc_summary.specs.Parts.{call_stop, check_stop, graph_flow};
 
 use crate::columns::columns_of;
-use crate::edges::graph_of;
+use crate::edges::{OwnGraph, graph_of};
 use crate::nodes::cells_of;
 use crate::stop::{Flow, NodeFormula};
 use farkas_check::Oracle;
@@ -47,7 +47,13 @@ pub fn flow<O: Oracle>(
 {
     let graph = graph_of(alloc, program, proc)?;
     let columns = columns_of(program, proc);
-    let cells = cells_of(alloc, program, proc, &graph, known, 0, oracle, log)?;
+    let own = OwnGraph {
+        program,
+        proc,
+        graph: &graph,
+        known,
+    };
+    let cells = cells_of(alloc, own, 0, oracle, log)?;
     let flow = flow_in(alloc, &graph, columns, cells.as_slice())?;
     Ok(flow)
 }

@@ -31,6 +31,7 @@ use Rattle.polyhedra.specs.Vocabulary.{Vocabulary, IsDirectionOver}
 use Rattle.polyhedra.proofs.Coverage.{over-covered}
 use Rattle.polyhedra.proofs.DirectionShapes.{directions-over}
 use Rattle.recurrence.specs.Law.{IsStarred}
+use Rattle.recurrence.specs.declared.progressions.Turns.{Turns}
 use Rattle.recurrence.specs.declared.terms.Term.{Term}
 use Rattle.recurrence.specs.declared.terms.Strata.{Strata}
 use Rattle.recurrence.specs.Products.{products}
@@ -55,11 +56,11 @@ each-flat step f made (x ∷ xs) = each-append step made (f x) (flat_map f xs) �
 -- ---- progressions
 
 -- of one variable, with both signs
-pub variable-parts : (cases : List Case) (us : List ℕ) (terms : List Term) (rows : List Row) (v : ℕ)
-    → each (by_term cases us v (pos 1)) rows terms >>= (λ upward. each (by_term cases us v (negsuc 0)) upward terms >>= (λ both. Done both)) ≡ by_variable cases us terms rows v
-variable-parts cases us terms rows v =
-    sym (each-flat (rows_with_progression_bound cases us) (λ up. flat_map (λ (t : Term). map (λ by. record { variable = v; up = up; term = t; by = by }) signs) terms) rows signs
-    ∙ (λ i. each (λ m up. each-flat (rows_with_progression_bound cases us) (λ (t : Term). map (λ by. record { variable = v; up = up; term = t; by = by }) signs) m terms i) rows signs))
+pub variable-parts : (turns : Turns) (rows : List Row) (v : ℕ)
+    → each (by_term turns record { variable = v; up = pos 1 }) rows turns.terms.now >>= (λ upward. each (by_term turns record { variable = v; up = negsuc 0 }) upward turns.terms.now >>= (λ both. Done both)) ≡ by_variable turns rows v
+variable-parts turns rows v =
+    sym (each-flat (rows_with_progression_bound turns) (λ up. flat_map (λ (t : Term). map (λ by. record { variable = v; up = up; term = t; by = by }) signs) turns.terms.now) rows signs
+    ∙ (λ i. each (λ m up. each-flat (rows_with_progression_bound turns) (λ (t : Term). map (λ by. record { variable = v; up = up; term = t; by = by }) signs) m turns.terms.now i) rows signs))
 
 not_more : (r : ℕ) → r ≤ 1 → nat_lt 1 r ≡ false
 not_more r h = grind arith
@@ -73,7 +74,7 @@ no-progressions body voc s rows e =
     ap (λ b. each (bounded_progression body.cases (change_over_turns body) (count body)) rows (if b then flat_map (progressions_of s.first) (open_variables body voc s) else [])) (sym (not_more voc.rule e))
 
 pub all-progressions : (body : Transition) (voc : Vocabulary) (s : Strata) (rows : List Row) → 1 < voc.rule
-    → each (by_variable body.cases (modified_variables true body) s.first) rows (open_variables body voc s) ≡ each (bounded_progression body.cases (change_over_turns body) (count body)) rows (progressions body voc s)
+    → each (λ made v. each (bounded_progression body.cases (change_over_turns body) (count body)) made (progressions_of s.first v)) rows (open_variables body voc s) ≡ each (bounded_progression body.cases (change_over_turns body) (count body)) rows (progressions body voc s)
 all-progressions body voc s rows e =
     sym (each-flat (bounded_progression body.cases (change_over_turns body) (count body)) (progressions_of s.first) rows (open_variables body voc s))
     ∙ ap (λ b. each (bounded_progression body.cases (change_over_turns body) (count body)) rows (if b then flat_map (progressions_of s.first) (open_variables body voc s) else [])) (sym (is_more voc.rule e))

@@ -121,15 +121,15 @@ mapped-first f n v low = mapped-at f 0 n v low ∙ ap f (none v)
 mapped-past : (f : ℕ → Polynomial) (n v : ℕ) → n ≤ v → poly_at (map f (range_with_len 0 n)) v ≡ constant_of (pos 0)
 mapped-past f n v past = ap (λ o. unwrap_or o (constant_of (pos 0))) (slice_get_past (map f (range_with_len 0 n)) v (subst (λ m. m ≤ v) (sym (length-map-range_with_len f 0 n)) past))
 
--- the difference of two columns, by their order
-abbrev by_order : Col → Col → Ordering → Made
+-- the difference of two columns as it is made, by their order
+abbrev pub by_order : Col → Col → Ordering → Made
 by_order c d o =
     gives.◌>>=◌ (gives.◌>>=◌ (match_ordering o (Ok (with_term (d ∷ []) (negsuc 0) ((c ∷ [], pos 1) ∷ []))) (gives.◌>>=◌ (plus (pos 1) (negsuc 0)) (λ n. Ok (with_term (c ∷ []) n [])))
     (gives.◌>>=◌ (put (d ∷ []) (negsuc 0) []) (λ made. Ok ((c ∷ [], pos 1) ∷ made)))) (λ made. put_all made []))
     (λ ts. gives.◌>>=◌ (plus (pos 0) (pos 0)) (λ r. Ok record { terms = ts; rest = r }))
 
 -- a column less another one can be made
-columns-made : (c d : Col) → (p : Polynomial) × (column c ⊟ column d ≡ Ok p)
+pub columns-made : (c d : Col) → (p : Polynomial) × (column c ⊟ column d ≡ Ok p)
 columns-made c d = go (mono_cmp (d ∷ []) (c ∷ []))
   where
     go : (o : Ordering) → (p : Polynomial) × (by_order c d o ≡ Ok p)

@@ -44,10 +44,11 @@ row_product m = if list_all is_before m then product_of m else None
 abbrev pub change_product : List Col → Option (List Col)
 change_product m = product_of (filter is_before m)
 
--- those of a row, and of a change
+-- those of a row
 abbrev pub row_products : Row → List (List Col)
 row_products row = filter_map (λ t. row_product t.0) row.poly.terms
 
+-- those of a change
 abbrev pub change_products : Polynomial → List (List Col)
 change_products change = filter_map (λ t. change_product t.0) change.terms
 

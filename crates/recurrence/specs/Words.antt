@@ -11,11 +11,16 @@ use Rattle.polyhedra.specs.Changes.{modified_variables, moving, changes_of, occu
 use Rattle.linear_terms.specs.declared.row.Row.{Row}
 use Rattle.linear_terms.specs.declared.row.Case.{Case}
 use Rattle.posing.specs.Posing.{Posing, ◌>>=◌, each}
+use Rattle.recurrence.specs.declared.stratifying.Below.{Below}
+use Rattle.recurrence.specs.declared.terms.Recurrence.{Recurrence}
 use Rattle.recurrence.specs.declared.terms.Term.{Term}
+use Rattle.recurrence.specs.declared.progressions.Turns.{Turns}
+use Rattle.recurrence.specs.declared.progressions.SignedChange.{SignedChange}
+use Rattle.recurrence.specs.declared.progressions.Progression as asked
 use Rattle.recurrence.specs.Progressions.{Progression, signs, progressions_of, bounded_progression}
 use Rattle.recurrence.specs.Products.{products, knowledge_of, is_known}
 use Rattle.recurrence.specs.Star.{after_from, count, past_third, posts, moves, rows_of}
-use Rattle.recurrence.specs.Strata.{strata}
+use Rattle.recurrence.specs.Strata.{over, strata}
 use Rattle.linear_terms.specs.declared.col.Col.TheVariants.{At, Aux}
 use Rattle.linear_terms.specs.declared.error.TermError.{TermError}
 use Rattle.linear_terms.specs.declared.row.Kind.TheVariants.{AtMost}
@@ -52,30 +57,44 @@ pub record AreModified (body : Transition) (variables : List ℕ) : Type 0 where
   pub are : variables ≡ modified_variables true body
   pub few : length variables < 2 ^ 32
 
+-- the lower terms that a stratum stands on
+abbrev pub lower_terms : Transition → Below → List Recurrence
+lower_terms body below = over body below.products.now below.known.now below.terms.now
+
 -- ---- progressions, one part after another
+
+-- a post of each case for each variable, and modified variables few enough to be numbered
+pub record AreTurns (turns : Turns) : Type 0 where
+  pub posts : All (λ (case : Case). length case.post ≡ turns.to) turns.cases.now
+  pub few : length turns.modified.now < 2 ^ 32
+
+-- a progression by what stands behind its references
+abbrev pub plain_progression : asked.Progression → Progression
+plain_progression p =
+    record { variable = p.change.variable; up = p.change.up; term = p.term.now; by = p.by }
 
 -- a variable's change over the turns, by the modified variables
 abbrev pub change_over_turns_by : List ℕ → ℕ → Made
 change_over_turns_by modified v = column (after_from 0 modified v) ⊟ column (At v)
 
--- the rows, with that of a progression behind them where its bound is known, by the modified
--- variables
-abbrev pub rows_with_progression_bound : List Case → List ℕ → List Row → Progression → Posing (List Row)
-rows_with_progression_bound cases modified = bounded_progression cases (change_over_turns_by modified) (Aux (length modified))
+-- the rows, with that of a progression behind them where its bound is known
+abbrev pub rows_with_progression_bound : Turns → List Row → Progression → Posing (List Row)
+rows_with_progression_bound turns = bounded_progression turns.cases.now
+    (change_over_turns_by turns.modified.now) (Aux (length turns.modified.now))
 
--- of one variable and one sign, over both signs of a term
-abbrev pub by_term : List Case → List ℕ → ℕ → ℤ → List Row → Term → Posing (List Row)
-by_term cases modified v up rows t = each (rows_with_progression_bound cases modified) rows (map (λ by. record {
-  variable = v;
-  up = up;
+-- of one signed change, over both signs of a term
+abbrev pub by_term : Turns → SignedChange → List Row → Term → Posing (List Row)
+by_term turns change rows t = each (rows_with_progression_bound turns) rows (map (λ by. record {
+  variable = change.variable;
+  up = change.up;
   term = t;
   by = by;
 }) signs)
 
 -- of one variable
-abbrev pub by_variable : List Case → List ℕ → List Term → List Row → ℕ → Posing (List Row)
-by_variable cases modified terms rows v =
-    each (rows_with_progression_bound cases modified) rows (progressions_of terms v)
+abbrev pub by_variable : Turns → List Row → ℕ → Posing (List Row)
+by_variable turns rows v =
+    each (rows_with_progression_bound turns) rows (progressions_of turns.terms.now v)
 
 -- ---- rows
 

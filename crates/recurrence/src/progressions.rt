@@ -12,9 +12,9 @@ ghost use Rattle.polyhedra.specs.Bounds.{bound_of, goals_of};
 ghost use Rattle.recurrence.specs.Progressions.{signs, is_alone, is_term, progressions, excess, progression_row, bounded_progression};
 ghost use Rattle.recurrence.specs.Star.{after_from, count, change_over_turns};
 ghost use Rattle.recurrence.specs.Strata.{all_terms};
-ghost use Rattle.recurrence.specs.Words.{is_among, IsMovement, change_over_turns_by, rows_with_progression_bound, by_term, by_variable};
+ghost use Rattle.recurrence.specs.Words.{is_among, IsMovement, AreTurns, plain_progression, change_over_turns_by, rows_with_progression_bound, by_term, by_variable};
 
-use crate::stratifying::is_among;
+use crate::stratifying::{Body, is_among};
 use crate::terms::{Strata, Term};
 use closed_form::sum_row;
 use farkas_check::{Goal, Oracle};
@@ -124,33 +124,54 @@ pub(crate) fn are_zero(numbers: &[i128]) -> bool
 
 // ---- one progression
 
-/// The greatest value of `up` times the change of a variable less `by` times a term is asked; where
-/// there is one, it gives a row behind the others.
+/// The turns that progressions are asked over.
+#[derive(Clone, Copy)]
+pub(crate) struct Turns<'a> {
+    /// The cases of one turn.
+    pub(crate) cases: &'a [Case],
+    /// How many columns there are after a turn.
+    pub(crate) to: u32,
+    /// The variables that a turn modifies.
+    pub(crate) modified: &'a [u32],
+    /// The terms that bound changes.
+    pub(crate) terms: &'a [Term],
+}
+
+/// `up` times the change of a variable.
+#[derive(Clone, Copy)]
+pub(crate) struct SignedChange {
+    pub(crate) variable: u32,
+    pub(crate) up: i128,
+}
+
+/// A signed change, bounded over `by` times a term.
+#[derive(Clone, Copy)]
+pub(crate) struct Progression<'a> {
+    pub(crate) change: SignedChange,
+    pub(crate) term: &'a Term,
+    pub(crate) by: i128,
+}
+
+/// The greatest value of the signed change less `by` times the term is asked; where there is one,
+/// it gives a row behind the others.
 fn with_progression<O: Oracle>(
     alloc: Global,
     rows: Items<Row>,
-    cases: &[Case],
-    to: u32,
-    modified: &[u32],
-    v: u32,
-    up: &i128,
-    term: &Term,
-    by: &i128,
+    turns: Turns,
+    progression: Progression,
     oracle: &mut O,
     log: &mut Log,
 ) -> Result<Items<Row>, WorkError>
-    requires posts { All (λ case. length case.post ≡ to) cases.now }
-    requires few { length modified.now < 2 ^ 32 }
-    requires low { v < to }
+    requires turns { AreTurns turns }
+    requires low { progression.change.variable < turns.to }
     ensures { Asks O.asking oracle log result
-        (rows_with_progression_bound cases.now modified.now rows
-        (record { variable = v; up = up.now; term = term.now; by = by.now })) }
+        (rows_with_progression_bound turns.entry rows (plain_progression progression.entry)) }
 {
-    let bound = bound_over(alloc, cases, to, v, up, term, by, oracle, log)?;
+    let bound = bound_over(alloc, turns, progression, oracle, log)?;
     match &bound {
         None => Ok(rows),
         Some(most) => {
-            let row = progression_row(alloc, modified, v, up, term, by, most);
+            let row = progression_row(alloc, turns.modified, progression, most);
             Ok(with_row(alloc, rows, row, log)?)
         }
     }
@@ -159,43 +180,33 @@ fn with_progression<O: Oracle>(
 /// The greatest value, if it is known.
 fn bound_over<O: Oracle>(
     alloc: Global,
-    cases: &[Case],
-    to: u32,
-    v: u32,
-    up: &i128,
-    term: &Term,
-    by: &i128,
+    turns: Turns,
+    progression: Progression,
     oracle: &mut O,
     log: &mut Log,
 ) -> Result<Option<i128>, WorkError>
-    requires posts { All (λ case. length case.post ≡ to) cases.now }
-    requires low { v < to }
+    requires turns { AreTurns turns }
+    requires low { progression.change.variable < turns.to }
     ensures { Asks O.asking oracle log result
-        (bound_of cases.now
-        (excess (record { variable = v; up = up.now; term = term.now; by = by.now }))) }
+        (bound_of turns.entry.cases.now (excess (plain_progression progression.entry))) }
 {
-    let goals = goals_over(alloc, cases, to, v, up, term, by);
+    let goals = goals_over(alloc, turns, progression);
     bound_by(alloc, goals, oracle, log)
 }
 
 fn goals_over(
     alloc: Global,
-    cases: &[Case],
-    to: u32,
-    v: u32,
-    up: &i128,
-    term: &Term,
-    by: &i128,
+    turns: Turns,
+    progression: Progression,
 ) -> Result<Items<Goal>, TermError>
-    requires posts { All (λ case. length case.post ≡ to) cases.now }
-    requires low { v < to }
+    requires turns { AreTurns turns }
+    requires low { progression.change.variable < turns.to }
     ensures { Gives cause (λ g. g) result
-        (goals_of (excess (record { variable = v; up = up.now; term = term.now; by = by.now }))
-        cases.now) }
+        (goals_of (excess (plain_progression progression.entry)) turns.entry.cases.now) }
 {
     let mut goals = Items::new(alloc);
-    for case in cases {
-        let objective = excess(alloc, case, v, up, term, by)?;
+    for case in turns.cases {
+        let objective = excess(alloc, case, progression)?;
         goals.push(goal_of(case, objective)?)?;
     }
     Ok(goals)
@@ -209,31 +220,25 @@ fn goal_of(case: &Case, objective: Poly) -> Result<Goal, AllocError>
     Ok(Goal { rows, objective })
 }
 
-/// By how much `up` times the change is above `by` times the term.
-fn excess(
-    alloc: Global,
-    case: &Case,
-    v: u32,
-    up: &i128,
-    term: &Term,
-    by: &i128,
-) -> Result<Poly, TermError>
-    requires { v < length case.now.post }
-    ensures { Gives cause (λ p. p) result
-        (excess (record { variable = v; up = up.now; term = term.now; by = by.now }) case.now) }
+/// By how much the signed change is above `by` times the term.
+fn excess(alloc: Global, case: &Case, progression: Progression) -> Result<Poly, TermError>
+    requires { progression.change.variable < length case.now.post }
+    ensures { Gives cause (λ p. p) result (excess (plain_progression progression.entry) case.now) }
 {
-    let change = change_so_often(alloc, case, v, up)?;
-    let slope = multiple(alloc, by, &term.recurrence.start)?;
+    let by = progression.by;
+    let change = change_so_often(alloc, case, progression.change)?;
+    let slope = multiple(alloc, &by, &progression.term.recurrence.start)?;
     difference(alloc, &change, &slope)
 }
 
-/// `up` times the change of a variable.
-fn change_so_often(alloc: Global, case: &Case, v: u32, up: &i128) -> Result<Poly, TermError>
-    requires { v < length case.now.post }
-    ensures { Gives cause (λ p. p) result (whole up.now ⊠ change true case.now v) }
+/// A signed change in a case.
+fn change_so_often(alloc: Global, case: &Case, signed: SignedChange) -> Result<Poly, TermError>
+    requires { signed.variable < length case.now.post }
+    ensures { Gives cause (λ p. p) result
+        (whole signed.up ⊠ change true case.now signed.variable) }
 {
-    let change = change(alloc, true, case, v)?;
-    multiple(alloc, up, &change)
+    let change = change(alloc, true, case, signed.variable)?;
+    multiple(alloc, &signed.up, &change)
 }
 
 /// A number times a polynomial.
@@ -248,84 +253,79 @@ fn multiple(alloc: Global, by: &i128, p: &Poly) -> Result<Poly, TermError>
 fn progression_row(
     alloc: Global,
     modified: &[u32],
-    v: u32,
-    up: &i128,
-    term: &Term,
-    by: &i128,
+    progression: Progression,
     most: &i128,
 ) -> Result<Row, TermError>
     requires { length modified.now < 2 ^ 32 }
     ensures { Gives cause (λ r. r) result
         (progression_row (change_over_turns_by modified.now) (Aux (length modified.now))
-        (record { variable = v; up = up.now; term = term.now; by = by.now }) most.now) }
+        (plain_progression progression.entry) most.now) }
 {
-    let change = moved_so_often(alloc, modified, v, up)?;
-    let growth = product(*by, term.relation.c)?;
-    let slope = multiple(alloc, by, &term.recurrence.start)?;
+    let by = progression.by;
+    let change = moved_so_often(alloc, modified, progression.change)?;
+    let growth = product(by, progression.term.relation.c)?;
+    let slope = multiple(alloc, &by, &progression.term.recurrence.start)?;
     sum_row(alloc, &change, &slope, growth, *most, turn_count(modified))
 }
 
-/// `up` times a variable's change over the turns.
-fn moved_so_often(alloc: Global, modified: &[u32], v: u32, up: &i128) -> Result<Poly, TermError>
+/// A signed change over the turns.
+fn moved_so_often(alloc: Global, modified: &[u32], signed: SignedChange) -> Result<Poly, TermError>
     requires { length modified.now < 2 ^ 32 }
-    ensures { Gives cause (λ p. p) result (whole up.now ⊠ change_over_turns_by modified.now v) }
+    ensures { Gives cause (λ p. p) result
+        (whole signed.up ⊠ change_over_turns_by modified.now signed.variable) }
 {
-    let change = change_over_turns(alloc, modified, v)?;
-    multiple(alloc, up, &change)
+    let change = change_over_turns(alloc, modified, signed.variable)?;
+    multiple(alloc, &signed.up, &change)
 }
 
 // ---- all progressions
 
-/// One sign of the change, one term, and both signs of the term.
+/// One signed change, one term, and both signs of the term.
 fn with_both_slopes<O: Oracle>(
     alloc: Global,
     rows: Items<Row>,
-    cases: &[Case],
-    to: u32,
-    modified: &[u32],
-    v: u32,
-    up: &i128,
+    turns: Turns,
+    change: SignedChange,
     term: &Term,
     oracle: &mut O,
     log: &mut Log,
 ) -> Result<Items<Row>, WorkError>
-    requires posts { All (λ case. length case.post ≡ to) cases.now }
-    requires few { length modified.now < 2 ^ 32 }
-    requires low { v < to }
-    ensures { Asks O.asking oracle log result
-        (by_term cases.now modified.now v up.now rows term.now) }
+    requires turns { AreTurns turns }
+    requires low { change.variable < turns.to }
+    ensures { Asks O.asking oracle log result (by_term turns.entry change rows term.now) }
 {
-    let once = with_progression(
-        alloc, rows, cases, to, modified, v, up, term, &1, oracle, log,
-    )?;
-    let both = with_progression(
-        alloc, once, cases, to, modified, v, up, term, &-1, oracle, log,
-    )?;
+    let rising = Progression {
+        change,
+        term,
+        by: 1,
+    };
+    let falling = Progression {
+        change,
+        term,
+        by: -1,
+    };
+    let once = with_progression(alloc, rows, turns, rising, oracle, log)?;
+    let both = with_progression(alloc, once, turns, falling, oracle, log)?;
     Ok(both)
 }
 
-/// One sign of the change, and each term.
+/// One signed change, and each term.
 fn with_terms<O: Oracle>(
     alloc: Global,
     rows: Items<Row>,
-    cases: &[Case],
-    to: u32,
-    modified: &[u32],
-    v: u32,
-    up: &i128,
-    terms: &[Term],
+    turns: Turns,
+    change: SignedChange,
     oracle: &mut O,
     log: &mut Log,
 ) -> Result<Items<Row>, WorkError>
-    requires posts { All (λ case. length case.post ≡ to) cases.now }
-    requires few { length modified.now < 2 ^ 32 }
-    requires low { v < to }
+    requires turns { AreTurns turns }
+    requires low { change.variable < turns.to }
     ensures { Asks O.asking oracle log result
-        (each (by_term cases.now modified.now v up.now) rows terms.now) }
+        (each (by_term turns.entry change) rows turns.entry.terms.now) }
 {
     let mut made = rows;
-    for term in terms {
-        made = with_both_slopes(alloc, made, cases, to, modified, v, up, term, oracle, log)?;
+    for term in turns.terms {
+        made = with_both_slopes(alloc, made, turns, change, term, oracle, log)?;
     }
     Ok(made)
 }
@@ -334,24 +334,25 @@ fn with_terms<O: Oracle>(
 fn with_variable<O: Oracle>(
     alloc: Global,
     rows: Items<Row>,
-    cases: &[Case],
-    to: u32,
-    modified: &[u32],
+    turns: Turns,
     v: &u32,
-    terms: &[Term],
     oracle: &mut O,
     log: &mut Log,
 ) -> Result<Items<Row>, WorkError>
-    requires posts { All (λ case. length case.post ≡ to) cases.now }
-    requires few { length modified.now < 2 ^ 32 }
-    requires low { v.now < to }
-    ensures { Asks O.asking oracle log result
-        (by_variable cases.now modified.now terms.now rows v.now) }
+    requires turns { AreTurns turns }
+    requires low { v.now < turns.to }
+    ensures { Asks O.asking oracle log result (by_variable turns.entry rows v.now) }
 {
-    let upward = with_terms(alloc, rows, cases, to, modified, *v, &1, terms, oracle, log)?;
-    let both = with_terms(
-        alloc, upward, cases, to, modified, *v, &-1, terms, oracle, log,
-    )?;
+    let rise = SignedChange {
+        variable: *v,
+        up: 1,
+    };
+    let fall = SignedChange {
+        variable: *v,
+        up: -1,
+    };
+    let upward = with_terms(alloc, rows, turns, rise, oracle, log)?;
+    let both = with_terms(alloc, upward, turns, fall, oracle, log)?;
     Ok(both)
 }
 
@@ -359,23 +360,18 @@ fn with_variable<O: Oracle>(
 fn with_variables<O: Oracle>(
     alloc: Global,
     rows: Items<Row>,
-    cases: &[Case],
-    to: u32,
-    modified: &[u32],
+    turns: Turns,
     variables: &[u32],
-    terms: &[Term],
     oracle: &mut O,
     log: &mut Log,
 ) -> Result<Items<Row>, WorkError>
-    requires posts { All (λ case. length case.post ≡ to) cases.now }
-    requires few { length modified.now < 2 ^ 32 }
-    requires low { All (λ v. v < to) variables.now }
-    ensures { Asks O.asking oracle log result
-        (each (by_variable cases.now modified.now terms.now) rows variables.now) }
+    requires turns { AreTurns turns }
+    requires low { All (λ v. v < turns.to) variables.now }
+    ensures { Asks O.asking oracle log result (each (by_variable turns.entry) rows variables.now) }
 {
     let mut made = rows;
     for v in variables {
-        made = with_variable(alloc, made, cases, to, modified, v, terms, oracle, log)?;
+        made = with_variable(alloc, made, turns, v, oracle, log)?;
     }
     Ok(made)
 }
@@ -384,35 +380,32 @@ fn with_variables<O: Oracle>(
 pub(crate) fn with_progressions<O: Oracle>(
     alloc: Global,
     rows: Items<Row>,
-    body: &Formula,
-    movement: &Movement,
+    body: Body,
     voc: &Vocabulary,
     strata: &Strata,
     oracle: &mut O,
     log: &mut Log,
 ) -> Result<Items<Row>, WorkError>
-    requires movement { IsMovement body.now movement.now }
-    requires few { body.now.to < 2 ^ 31 }
+    requires movement { IsMovement body.formula.now body.movement.now }
+    requires few { body.formula.now.to < 2 ^ 31 }
     ensures { Asks O.asking oracle log result
-        (each (bounded_progression body.now.cases (change_over_turns body.now) (count body.now)) rows
-        (progressions body.now voc.now strata.now)) }
+        (each (bounded_progression body.entry.formula.now.cases
+        (change_over_turns body.entry.formula.now) (count body.entry.formula.now)) rows
+        (progressions body.entry.formula.now voc.now strata.now)) }
 {
     if voc.rule() <= 1 {
         return Ok(rows);
     }
-    let variables = open_variables(alloc, voc.named_columns(), movement, strata)?;
-    let modified = movement.modified.as_slice();
+    let variables = open_variables(alloc, voc.named_columns(), body.movement, strata)?;
+    let modified = body.movement.modified.as_slice();
     let terms = strata.first.as_slice();
-    let cases = body.cases();
-    with_variables(
-        alloc,
-        rows,
+    let cases = body.formula.cases();
+    let to = body.formula.to();
+    let turns = Turns {
         cases,
-        body.to(),
+        to,
         modified,
-        variables.as_slice(),
         terms,
-        oracle,
-        log,
-    )
+    };
+    with_variables(alloc, rows, turns, variables.as_slice(), oracle, log)
 }

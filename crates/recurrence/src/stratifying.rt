@@ -4,8 +4,8 @@ ghost use Rattle.std.specs.Option.{option_map};
 ghost use Rattle.farkas_check.specs.Relations.{have_equally_many};
 ghost use Rattle.polyhedra.specs.Changes.{is_modified, moving, occurring};
 ghost use Rattle.posing.specs.Follows.{Asks};
-ghost use Rattle.recurrence.specs.Strata.{term_of, has_terms, stratum, steady_columns, over, steady, stratum_if, is_short, has_grown, strata};
-ghost use Rattle.recurrence.specs.Words.{Rise, IsMovement, IsClosed, is_among};
+ghost use Rattle.recurrence.specs.Strata.{term_of, has_terms, stratum, steady_columns, steady, stratum_if, is_short, has_grown, strata};
+ghost use Rattle.recurrence.specs.Words.{Rise, IsMovement, IsClosed, is_among, lower_terms};
 
 use crate::growing::sequences;
 use crate::solving::{unmodified_columns, with_terms};
@@ -17,36 +17,61 @@ use polyhedra::{Log, Movement, WorkError, relations_of};
 use std::alloc::{AllocError, Global};
 use transition_formula::Formula;
 
+/// The body of a loop.
+#[derive(Clone, Copy)]
+pub(crate) struct Body<'a> {
+    pub(crate) formula: &'a Formula,
+    /// What a turn changes.
+    pub(crate) movement: &'a Movement,
+}
+
+/// What a stratum stands on besides the columns that no turn changes.
+#[derive(Clone, Copy)]
+pub(crate) struct Below<'a> {
+    /// The products that are looked at.
+    pub(crate) products: &'a [Mono],
+    /// What a turn makes of each column, where it is known.
+    pub(crate) known: &'a [Option<Poly>],
+    /// The terms of the stratum before, where they are known.
+    pub(crate) terms: &'a Option<Items<Term>>,
+}
+
 /// The strata of a body with these products.
 #[tactic(auto, using(posing::proofs::Following::following), unfolding(crate::specs::Strata::strata))]
 pub(crate) fn strata_of<O: Oracle>(
     alloc: Global,
-    body: &Formula,
-    movement: &Movement,
+    body: Body,
     products: &[Mono],
     oracle: &mut O,
     log: &mut Log,
 ) -> Result<Strata, WorkError>
-    requires ends { body.now.from ≡ body.now.to }
-    requires movement { IsMovement body.now movement.now }
-    ensures { Asks O.asking oracle log result (strata body.now products.now) }
+    requires ends { body.formula.now.from ≡ body.formula.now.to }
+    requires movement { IsMovement body.formula.now body.movement.now }
+    ensures { Asks O.asking oracle log result (strata body.entry.formula.now products.now) }
 {
-    let most = movement.modified.len();
-    let moving = movement.moving.as_slice();
-    let unsolved = unmodified_columns(alloc, movement.modified.as_slice(), body.to(), products)?;
-    let first = one_stratum(alloc, body, movement, &[], oracle, log)?;
+    let modified = body.movement.modified.as_slice();
+    let most = body.movement.modified.len();
+    let moving = body.movement.moving.as_slice();
+    let unsolved = unmodified_columns(alloc, modified, body.formula.to(), products)?;
+    let first = one_stratum(alloc, body, &[], oracle, log)?;
     let asked = is_short(most, &first);
     let known = with_terms(alloc, unsolved, moving, &first)?;
     let solved = known.as_slice();
-    let second = next_stratum(
-        alloc, asked, body, movement, products, solved, &first, oracle, log,
-    )?;
+    let below = Below {
+        products,
+        known: solved,
+        terms: &first,
+    };
+    let second = next_stratum(alloc, asked, body, below, oracle, log)?;
     let again = asks_third(most, &first, &second);
     let more = with_terms(alloc, known, moving, &second)?;
     let all_solved = more.as_slice();
-    let third = next_stratum(
-        alloc, again, body, movement, products, all_solved, &second, oracle, log,
-    )?;
+    let below = Below {
+        products,
+        known: all_solved,
+        terms: &second,
+    };
+    let third = next_stratum(alloc, again, body, below, oracle, log)?;
     Ok(Strata {
         first: terms_in(alloc, first),
         second: terms_in(alloc, second),
@@ -58,20 +83,19 @@ pub(crate) fn strata_of<O: Oracle>(
 #[tactic(auto, using(posing::proofs::Following::following), unfolding(crate::specs::Strata::stratum))]
 fn one_stratum<O: Oracle>(
     alloc: Global,
-    body: &Formula,
-    movement: &Movement,
+    body: Body,
     lower: &[Recurrence],
     oracle: &mut O,
     log: &mut Log,
 ) -> Result<Option<Items<Term>>, WorkError>
-    requires { IsMovement body.now movement.now }
-    ensures { Asks O.asking oracle log result (stratum body.now lower.now) }
+    requires { IsMovement body.formula.now body.movement.now }
+    ensures { Asks O.asking oracle log result (stratum body.entry.formula.now lower.now) }
 {
-    let cases = cases_of(movement)?;
+    let cases = cases_of(body.movement)?;
     let starts = starts_of(alloc, lower)?;
     let question = question_of(cases, starts);
     let found = relations_of(alloc, question, oracle, log)?;
-    let terms = terms_of(alloc, movement.moving.as_slice(), lower, found)?;
+    let terms = terms_of(alloc, body.movement.moving.as_slice(), lower, found)?;
     Ok(terms)
 }
 
@@ -81,25 +105,23 @@ fn one_stratum<O: Oracle>(
 fn next_stratum<O: Oracle>(
     alloc: Global,
     asked: bool,
-    body: &Formula,
-    movement: &Movement,
-    products: &[Mono],
-    known: &[Option<Poly>],
-    below: &Option<Items<Term>>,
+    body: Body,
+    below: Below,
     oracle: &mut O,
     log: &mut Log,
 ) -> Result<Option<Items<Term>>, WorkError>
-    requires ends { body.now.from ≡ body.now.to }
-    requires movement { IsMovement body.now movement.now }
-    requires closed { IsClosed known.now }
+    requires ends { body.formula.now.from ≡ body.formula.now.to }
+    requires movement { IsMovement body.formula.now body.movement.now }
+    requires closed { IsClosed below.known.now }
     ensures { Asks O.asking oracle log result
-        (stratum_if asked body.now (over body.now products.now known.now below.now)) }
+        (stratum_if asked body.entry.formula.now
+        (lower_terms body.entry.formula.now below.entry)) }
 {
     if !asked {
         return Ok(None);
     }
-    let lower = over(alloc, body, movement, products, known, below)?;
-    one_stratum(alloc, body, movement, lower.as_slice(), oracle, log)
+    let lower = over(alloc, body, below)?;
+    one_stratum(alloc, body, lower.as_slice(), oracle, log)
 }
 
 fn cases_of(movement: &Movement) -> Result<Items<Change>, AllocError>
@@ -170,27 +192,20 @@ fn terms_from(
 
 /// The columns that no turn changes and that occur, then the terms of a stratum, then the products
 /// of known columns.
-fn over(
-    alloc: Global,
-    body: &Formula,
-    movement: &Movement,
-    products: &[Mono],
-    known: &[Option<Poly>],
-    below: &Option<Items<Term>>,
-) -> Result<Items<Recurrence>, AllocError>
-    requires ends { body.now.from ≡ body.now.to }
-    requires movement { IsMovement body.now movement.now }
-    requires closed { IsClosed known.now }
-    ensures { IfOk result (λ lower. lower ≡ over body.now products.now known.now below.now) }
+fn over(alloc: Global, body: Body, below: Below) -> Result<Items<Recurrence>, AllocError>
+    requires ends { body.formula.now.from ≡ body.formula.now.to }
+    requires movement { IsMovement body.formula.now body.movement.now }
+    requires closed { IsClosed below.known.now }
+    ensures { IfOk result (λ lower. lower ≡ lower_terms body.entry.formula.now below.entry) }
 {
     let columns = steady_columns(
         alloc,
-        movement.modified.as_slice(),
-        movement.occurring.as_slice(),
+        body.movement.modified.as_slice(),
+        body.movement.occurring.as_slice(),
     )?;
     let mut lower = steadies(alloc, columns.as_slice())?;
-    lower.append(recurrences_in(alloc, below)?)?;
-    lower.append(sequences(alloc, known, products)?)?;
+    lower.append(recurrences_in(alloc, below.terms)?)?;
+    lower.append(sequences(alloc, below.known, below.products)?)?;
     Ok(lower)
 }
 

@@ -17,15 +17,15 @@ ghost use Rattle.recurrence.specs.Words.{Ascend, IsMovement, AreModified, row_of
 
 use crate::products::products;
 use crate::progressions::{after, turn_count, with_progressions};
-use crate::stratifying::strata_of;
+use crate::stratifying::{Body, strata_of};
 use crate::terms::{Strata, Term, column, linear};
 use closed_form::row;
 use farkas_check::Oracle;
 use items::Items;
 use linear_terms::{Case, Col, Kind, Mono, Poly, Row, TermError, difference};
 use polyhedra::{
-    Log, Movement, Vocabulary, WorkError, add_row, bounds_after, bounds_before, bounds_on_changes,
-    changes_after, directions, movement_of, posts_after,
+    Displacement, Log, Movement, Vocabulary, WorkError, add_row, bounds_after, bounds_before,
+    bounds_on_changes, changes_after, directions, movement_of, posts_after,
 };
 use std::alloc::{AllocError, Global};
 use transition_formula::Formula;
@@ -43,44 +43,43 @@ pub(crate) fn turns<O: Oracle>(
     ensures { Asks O.asking oracle log result (turns body.now voc.now) }
 {
     let movement = movement_of(alloc, true, body)?;
-    turns_by(alloc, body, voc, &movement, oracle, log)
+    let looped = Body {
+        formula: body,
+        movement: &movement,
+    };
+    turns_by(alloc, looped, voc, oracle, log)
 }
 
 /// The same by what the body changes.
 fn turns_by<O: Oracle>(
     alloc: Global,
-    body: &Formula,
+    body: Body,
     voc: &Vocabulary,
-    movement: &Movement,
     oracle: &mut O,
     log: &mut Log,
 ) -> Result<Case, WorkError>
-    requires starred { IsStarred body.now voc.now }
-    requires movement { IsMovement body.now movement.now }
-    requires lost { loss_notes movement.now.lost ≡ lost_changes true body.now }
-    ensures { Asks O.asking oracle log result (turns body.now voc.now) }
+    requires starred { IsStarred body.formula.now voc.now }
+    requires movement { IsMovement body.formula.now body.movement.now }
+    requires lost { loss_notes body.movement.now.lost ≡ lost_changes true body.formula.now }
+    ensures { Asks O.asking oracle log result (turns body.entry.formula.now voc.now) }
 {
-    let aux = movement.modified.len() as u32 + 1;
-    let post = noted_posts(alloc, body, movement, log)?;
-    let rows = rows_by_strata(alloc, body, voc, movement, oracle, log)?;
+    let aux = body.movement.modified.len() as u32 + 1;
+    let post = noted_posts(alloc, body, log)?;
+    let rows = rows_by_strata(alloc, body, voc, oracle, log)?;
     Ok(Case { aux, rows, post })
 }
 
 /// What stands for each variable after the turns; losses of changes are noted.
-fn noted_posts(
-    alloc: Global,
-    body: &Formula,
-    movement: &Movement,
-    log: &mut Log,
-) -> Result<Items<Poly>, AllocError>
-    requires few { length movement.now.modified < 2 ^ 32 }
-    requires modified { movement.now.modified ≡ modified_variables true body.now }
-    requires lost { loss_notes movement.now.lost ≡ lost_changes true body.now }
-    ensures noted { Adds (lost_changes true body.now) log.old log.new result }
-    ensures exact { IfOk result (λ made. made ≡ posts body.now) }
+fn noted_posts(alloc: Global, body: Body, log: &mut Log) -> Result<Items<Poly>, AllocError>
+    requires few { length body.movement.now.modified < 2 ^ 32 }
+    requires modified { body.movement.now.modified ≡ modified_variables true body.formula.now }
+    requires lost { loss_notes body.movement.now.lost ≡ lost_changes true body.formula.now }
+    ensures noted { Adds (lost_changes true body.entry.formula.now) log.old log.new result }
+    ensures exact { IfOk result (λ made. made ≡ posts body.entry.formula.now) }
 {
-    let posts = posts_after(alloc, true, movement.modified.as_slice(), body.to())?;
-    log.add_losses(alloc, movement.lost.as_slice())?;
+    let modified = body.movement.modified.as_slice();
+    let posts = posts_after(alloc, true, modified, body.formula.to())?;
+    log.add_losses(alloc, body.movement.lost.as_slice())?;
     Ok(posts)
 }
 
@@ -88,46 +87,44 @@ fn noted_posts(
 #[tactic(auto, using(posing::proofs::Following::following), unfolding(crate::specs::Words::rows_by_strata))]
 fn rows_by_strata<O: Oracle>(
     alloc: Global,
-    body: &Formula,
+    body: Body,
     voc: &Vocabulary,
-    movement: &Movement,
     oracle: &mut O,
     log: &mut Log,
 ) -> Result<Items<Row>, WorkError>
-    requires starred { IsStarred body.now voc.now }
-    requires movement { IsMovement body.now movement.now }
-    ensures { Asks O.asking oracle log result (rows_by_strata body.now voc.now) }
+    requires starred { IsStarred body.formula.now voc.now }
+    requires movement { IsMovement body.formula.now body.movement.now }
+    ensures { Asks O.asking oracle log result (rows_by_strata body.entry.formula.now voc.now) }
 {
-    let products = products(alloc, movement, voc)?;
+    let products = products(alloc, body.movement, voc)?;
     let monos = products.as_slice();
-    let strata = strata_of(alloc, body, movement, monos, oracle, log)?;
-    rows_of(alloc, body, voc, movement, monos, &strata, oracle, log)
+    let strata = strata_of(alloc, body, monos, oracle, log)?;
+    rows_of(alloc, body, voc, monos, &strata, oracle, log)
 }
 
 /// Its rows: what the terms are after the turns, that there is a turn, bounds, and progressions.
 #[tactic(auto, using(posing::proofs::Following::following), unfolding(crate::specs::Star::rows_of))]
 fn rows_of<O: Oracle>(
     alloc: Global,
-    body: &Formula,
+    body: Body,
     voc: &Vocabulary,
-    movement: &Movement,
     monos: &[Mono],
     strata: &Strata,
     oracle: &mut O,
     log: &mut Log,
 ) -> Result<Items<Row>, WorkError>
-    requires starred { IsStarred body.now voc.now }
-    requires movement { IsMovement body.now movement.now }
-    requires products { monos.now ≡ products body.now voc.now }
-    ensures { Asks O.asking oracle log result (rows_of body.now voc.now strata.now) }
+    requires starred { IsStarred body.formula.now voc.now }
+    requires movement { IsMovement body.formula.now body.movement.now }
+    requires products { monos.now ≡ products body.formula.now voc.now }
+    ensures { Asks O.asking oracle log result (rows_of body.entry.formula.now voc.now strata.now) }
 {
-    let modified = movement.modified.as_slice();
+    let modified = body.movement.modified.as_slice();
     let terms = terms_with_row(alloc, monos, strata)?;
-    let moving = movement.moving.as_slice();
+    let moving = body.movement.moving.as_slice();
     let equations = equations(alloc, terms.as_slice(), monos, modified, moving, log)?;
     let started = with_some_turn(alloc, equations, modified)?;
-    let bounds = bound_rows(alloc, body, voc, modified, started, oracle, log)?;
-    with_progressions(alloc, bounds, body, movement, voc, strata, oracle, log)
+    let bounds = bound_rows(alloc, body.formula, voc, modified, started, oracle, log)?;
+    with_progressions(alloc, bounds, body, voc, strata, oracle, log)
 }
 
 // ---- rows of terms
@@ -358,13 +355,15 @@ fn bound_rows<O: Oracle>(
     let both = bounds_at_ends(alloc, rows, cases, posts.as_slice(), along, oracle, log)?;
     add_extra(&mut directions, voc)?;
     let count = turn_count(modified);
+    let displacement = Displacement {
+        f: body,
+        moved: moves.as_slice(),
+        turns: Some(count),
+    };
     bounds_on_changes(
         alloc,
         both,
-        cases,
-        body.to(),
-        moves.as_slice(),
-        Some(count),
+        displacement,
         directions.as_slice(),
         oracle,
         log,

@@ -47,6 +47,17 @@ fn proc(
     })
 }
 
+/// What stands of a procedure in a text, where its body begins.
+#[derive(Clone, Copy)]
+struct Source<'a> {
+    name: &'a Name,
+    returns: bool,
+    params: &'a [Param],
+    lines: &'a [Line],
+    /// The place of its closing brace.
+    end: u32,
+}
+
 impl Elaborator {
     /// The procedures of a text with so many globals; the places of its assertions are added.
     pub(crate) fn procedures(
@@ -102,15 +113,14 @@ impl Elaborator {
                 ..
             } => {
                 let number = small(checks.len())?;
-                let made = self.procedure(
-                    globals,
-                    number,
+                let source = Source {
                     name,
-                    *returns,
-                    params.as_slice(),
-                    lines.as_slice(),
-                    *end,
-                )?;
+                    returns: *returns,
+                    params: params.as_slice(),
+                    lines: lines.as_slice(),
+                    end: *end,
+                };
+                let made = self.procedure(globals, number, source)?;
                 procs.push(made)?;
                 all_checks(lines.as_slice(), checks)
             }
@@ -121,29 +131,32 @@ impl Elaborator {
         &mut self,
         globals: u32,
         number: u32,
-        name: &Name,
-        returns: bool,
-        params: &[Param],
-        lines: &[Line],
-        end: u32,
+        source: Source<'_>,
     ) -> Result<Proc, AllocError>
         requires { self.old.env.scopes ≡ top self.old.env.scopes ∷ [] }
         ensures scopes { OnOk result (self.new.env.scopes ≡ self.old.env.scopes) }
         ensures proc { IfOk result
-            (λ made. made ≡ proc_of (top self.old.env.scopes) globals number name.now returns
-            params.now lines.now) }
+            (λ made. made ≡ proc_of (top self.old.env.scopes) globals number
+            source.entry.name.now source.entry.returns source.entry.params.now
+            source.entry.lines.now) }
         ensures least { OnOk result
             (self.new.least
             ≡ least_of self.old.least
-            (body_faults (top self.old.env.scopes) globals number returns params.now lines.now
-            end)) }
+            (body_faults (top self.old.env.scopes) globals number source.entry.returns
+            source.entry.params.now source.entry.lines.now source.entry.end)) }
     {
-        let columns = body_columns(self.alloc, params, lines)?;
-        self.begin(globals, number, returns, columns.len())?;
-        self.params(params)?;
-        let body = self.statements(lines, end)?;
+        let columns = body_columns(self.alloc, source.params, source.lines)?;
+        self.begin(globals, number, source.returns, columns.len())?;
+        self.params(source.params)?;
+        let body = self.statements(source.lines, source.end)?;
         self.env.close();
-        proc(name, returns, params.len(), columns, body)
+        proc(
+            source.name,
+            source.returns,
+            source.params.len(),
+            columns,
+            body,
+        )
     }
 
     // The statements of a procedure's lines, of which there may be too many.

@@ -13,6 +13,9 @@ use Rattle.analysis.proofs.judging.judgements_on_all.Goals as goal
 pub returns-in_err-standing-clause-follows : goal.returns-in_err-standing-clause-follows
 returns-in_err-standing-clause-follows g c = stops _ _ _ _ _ _ refl c.from_residual.ensures.1
 
+pub with_judged-requires-clause-text : goal.with_judged-requires-clause-text
+with_judged-requires-clause-text g c = record { formed = c.requires.formed; standing = c.in_ok-standing.ensures; entries = c.requires.entries; flows = c.requires.flows }
+
 pub loop-n-init : goal.loop-n-init
 loop-n-init g c =
     let program = c.args.program.now in

@@ -1,12 +1,10 @@
-use Rattle.std.specs.Prelude.{map}
-use Rattle.std.specs.Rc.{rc_value}
 use Rattle.std.proofs.Common.{◌≡◌, ℕ, zero, suc, ◌<◌, List, [], ◌∷◌, length, get_or, refl, subst, arith}
 use Rattle.std.proofs.lemmas.List.{drop_more, drop_all}
 use Rattle.posing.proofs.Following.{leads_none}
 use Rattle.posing.proofs.Steps.{each_next}
 use Rattle.checked_tree.specs.Graph.{Graph}
 use Rattle.checked_tree.specs.ByNumber.{with_number}
-use Rattle.checked_tree.specs.Growing.{entries_in, AreGrowing}
+use Rattle.checked_tree.specs.Growing.{graph_in, entries_in, AreGrowing}
 use Rattle.checked_tree.proofs.Growths.{next-growth, growing-next}
 use Rattle.checked_tree.proofs.LogGains.{step_fails}
 use Rattle.checked_tree.proofs.evaluating.with_numbers.Goals as goal
@@ -22,20 +20,20 @@ loop-number-init g c = (leads_none _ _ _ _, λ source start growing. growing)
 
 pub with_number-requires : goal.with_number-requires
 with_number-requires g c =
-    let graph : Graph = record { links = c.args.links.now; leaves = c.args.leaves.now; nodes = map rc_value c.args.nodes.now } in
+    let graph : Graph = graph_in c.args.graph in
     next-growth graph c.requires.source c.args.keys.now c.requires.start c.loop-number.log c.loop-number.made _ _
     (subst (AreGrowing graph c.requires.source c.args.keys.now c.requires.start c.loop-number.log c.loop-number.made) (drop_more c.args.order.now c.loop-number.number-index _ c.loop-number-test.true)
     (c.loop-number.invariant.1 c.requires.source c.requires.start c.requires.growing))
 
 pub returns-in_err-made-clause-follows : goal.returns-in_err-made-clause-follows
 returns-in_err-made-clause-follows g c =
-    let graph : Graph = record { links = c.args.links.now; leaves = c.args.leaves.now; nodes = map rc_value c.args.nodes.now } in
+    let graph : Graph = graph_in c.args.graph in
     step_fails c.from_residual.result entries_in (with_number graph c.args.keys.now) _ _ c.loop-number.invariant.0 c.loop-number-test.true
     (get-default c.args.order.now c.loop-number.number-index _ _ c.loop-number-test.true) c.in_err-made.ensures.follows c.from_residual.ensures.1
 
 pub loop-number-preserved : goal.loop-number-preserved
 loop-number-preserved g c =
-    let graph : Graph = record { links = c.args.links.now; leaves = c.args.leaves.now; nodes = map rc_value c.args.nodes.now } in (
+    let graph : Graph = graph_in c.args.graph in (
       each_next (with_number graph c.args.keys.now) _ _ c.loop-number.invariant.0 c.loop-number-test.true
           (get-default c.args.order.now c.loop-number.number-index _ _ c.loop-number-test.true) c.in_ok-made.ensures.follows,
       λ source start growing. growing-next graph source c.args.keys.now start c.loop-number.log _ c.loop-number.made _ _ _
@@ -46,5 +44,5 @@ loop-number-preserved g c =
 
 pub returns-clause-grown : goal.returns-clause-grown
 returns-clause-grown g c = λ source start growing.
-    let graph : Graph = record { links = c.args.links.now; leaves = c.args.leaves.now; nodes = map rc_value c.args.nodes.now } in
+    let graph : Graph = graph_in c.args.graph in
     subst (AreGrowing graph source c.args.keys.now start c.loop-number.log c.loop-number.made) (drop_all c.loop-number.number-index c.args.order.now (omega arith)) (c.loop-number.invariant.1 source start growing)

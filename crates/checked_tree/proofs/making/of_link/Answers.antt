@@ -1,5 +1,3 @@
-use Rattle.std.specs.Prelude.{map}
-use Rattle.std.specs.Rc.{rc_value}
 use Rattle.std.proofs.Common.{◌≡◌, sym, subst, ap, ◌∙◌}
 use Rattle.path_expr.specs.declared.link.Link.{Link}
 use Rattle.posing.proofs.Steps.{in_other_words}
@@ -10,13 +8,13 @@ use Rattle.checked_tree.specs.Graph.{Graph, link_at, vocabulary_at}
 use Rattle.checked_tree.specs.Evaluation.{leaf_formula}
 use Rattle.checked_tree.specs.Law.{IsEnd, IsFrom}
 use Rattle.checked_tree.specs.Tree.{Leaf, own_of, tree_of}
-use Rattle.checked_tree.specs.Growing.{IsLeafOf}
+use Rattle.checked_tree.specs.Growing.{graph_in, IsLeafOf}
 use Rattle.checked_tree.proofs.LogGains.{if_all}
 use Rattle.checked_tree.proofs.making.of_link.Goals as goal
 
 pub leaf-requires-clause-between : goal.leaf-requires-clause-between
 leaf-requires-clause-between g c =
-    let graph : Graph = record { links = c.args.links.now; leaves = c.args.leaves.now; nodes = map rc_value c.args.nodes.now } in
+    let graph : Graph = graph_in c.args.graph in
     let start = c.vocabulary_at-start.ensures ∙ ap (λ (l : Link). vocabulary_at graph l.from) c.link_at-link.ensures in
     let end = c.vocabulary_at-end.ensures ∙ ap (λ (l : Link). vocabulary_at graph l.to) c.link_at-link.ensures in
     subst (λ v. IsFrom v c.vocabulary_at-end.result.now.value c.leaf_at-given.result.now) (sym start)
@@ -25,12 +23,12 @@ leaf-requires-clause-between g c =
 
 pub leaf-requires-clause-start : goal.leaf-requires-clause-start
 leaf-requires-clause-start g c =
-    let graph : Graph = record { links = c.args.links.now; leaves = c.args.leaves.now; nodes = map rc_value c.args.nodes.now } in
+    let graph : Graph = graph_in c.args.graph in
     subst IsEnd (sym (c.vocabulary_at-start.ensures ∙ ap (λ (l : Link). vocabulary_at graph l.from) c.link_at-link.ensures)) c.requires.due.start
 
 pub leaf-requires-clause-end : goal.leaf-requires-clause-end
 leaf-requires-clause-end g c =
-    let graph : Graph = record { links = c.args.links.now; leaves = c.args.leaves.now; nodes = map rc_value c.args.nodes.now } in
+    let graph : Graph = graph_in c.args.graph in
     subst IsEnd (sym (c.vocabulary_at-end.ensures ∙ ap (λ (l : Link). vocabulary_at graph l.to) c.link_at-link.ensures)) c.requires.due.end
 
 pub leaf-requires-clause-solvable : goal.leaf-requires-clause-solvable
@@ -41,14 +39,14 @@ leaf-requires-clause-canonical g c = subst (λ (f : Transition). HaveCanonicalRo
 
 pub returns-clause-follows : goal.returns-clause-follows
 returns-clause-follows g c =
-    let graph : Graph = record { links = c.args.links.now; leaves = c.args.leaves.now; nodes = map rc_value c.args.nodes.now } in
+    let graph : Graph = graph_in c.args.graph in
     let start = c.vocabulary_at-start.ensures ∙ ap (λ (l : Link). vocabulary_at graph l.from) c.link_at-link.ensures in
     let end = c.vocabulary_at-end.ensures ∙ ap (λ (l : Link). vocabulary_at graph l.to) c.link_at-link.ensures in
     in_other_words (λ i. leaf_formula (c.leaf_at-given.ensures i) (start i) (end i)) c.leaf.ensures.follows
 
 pub returns-clause-of_leaf : goal.returns-clause-of_leaf
 returns-clause-of_leaf g c =
-    let graph : Graph = record { links = c.args.links.now; leaves = c.args.leaves.now; nodes = map rc_value c.args.nodes.now } in
+    let graph : Graph = graph_in c.args.graph in
     let start = c.vocabulary_at-start.ensures ∙ ap (λ (l : Link). vocabulary_at graph l.from) c.link_at-link.ensures in
     let end = c.vocabulary_at-end.ensures ∙ ap (λ (l : Link). vocabulary_at graph l.to) c.link_at-link.ensures in
     if_all c.leaf.result

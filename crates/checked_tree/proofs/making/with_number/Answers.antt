@@ -1,6 +1,5 @@
 use Rattle.std.proofs.Common.{subst, sym, ◌≡◌, ◌∙◌, List, [], refl, ap, Some}
-use Rattle.std.specs.Prelude.{slice_set, map}
-use Rattle.std.specs.Rc.{rc_value}
+use Rattle.std.specs.Prelude.{slice_set}
 use Rattle.path_expr.specs.declared.link.Link.{Link}
 use Rattle.posing.proofs.Steps.{value_first, at_end}
 use Rattle.checked_tree.specs.declared.growth.Growth.{Growth}
@@ -9,7 +8,7 @@ use Rattle.checked_tree.specs.declared.key.Key.TheVariants as key
 use Rattle.checked_tree.specs.Graph.{Graph, bare_links}
 use Rattle.checked_tree.specs.ByNumber.{Entries, ends_by, formula_by, key_at, with_number}
 use Rattle.checked_tree.specs.Tree.{formula_of, tree_of}
-use Rattle.checked_tree.specs.Growing.{entries_in, IsGrowable, IsTreeBy}
+use Rattle.checked_tree.specs.Growing.{graph_in, entries_in, IsGrowable, IsTreeBy}
 use Rattle.checked_tree.proofs.Growths.{entries-set}
 use Rattle.checked_tree.proofs.LogGains.{first_fails}
 use Rattle.checked_tree.proofs.making.with_number.Goals as goal
@@ -26,14 +25,14 @@ ends-of-key g made growths k next ends same key_is is = is ∙ ends-by-links g (
 
 pub tree_by-requires : goal.tree_by-requires
 tree_by-requires g c =
-    let graph : Graph = record { links = c.args.links.now; leaves = c.args.leaves.now; nodes = map rc_value c.args.nodes.now } in
+    let graph : Graph = graph_in c.args.graph in
     subst (λ growths. IsGrowable graph growths c.key_at-key.result) (sym c.as_slice-made.ensures)
     (subst (IsGrowable graph c.args.growths) (sym c.key_at-key.ensures) c.requires.growable)
 
 pub returns-in_err-tree-clause-follows : goal.returns-in_err-tree-clause-follows
 unfolding with_number
 returns-in_err-tree-clause-follows g c =
-    let graph : Graph = record { links = c.args.links.now; leaves = c.args.leaves.now; nodes = map rc_value c.args.nodes.now } in
+    let graph : Graph = graph_in c.args.graph in
     let made = c.as_slice-made.ensures in
     let k = c.key_at-key.ensures in
     first_fails c.from_residual.result entries_in _ c.in_err-tree.ensures.follows (λ i. formula_by graph (entries_in (made i)) (k i)) c.from_residual.ensures.1
@@ -41,7 +40,7 @@ returns-in_err-tree-clause-follows g c =
 pub returns-clause-follows : goal.returns-clause-follows
 unfolding with_number
 returns-clause-follows g c =
-    let graph : Graph = record { links = c.args.links.now; leaves = c.args.leaves.now; nodes = map rc_value c.args.nodes.now } in
+    let graph : Graph = graph_in c.args.graph in
     let made = c.as_slice-made.ensures in
     let k = c.key_at-key.ensures in
     let ends = ends-of-key graph c.as_slice-made.result.now c.args.growths c.key_at-key.result (key_at c.args.keys.now c.args.number) c.ends_by-ends.result made k c.ends_by-ends.ensures in
@@ -51,7 +50,7 @@ returns-clause-follows g c =
 
 pub returns-clause-grown : goal.returns-clause-grown
 returns-clause-grown g c =
-    let graph : Graph = record { links = c.args.links.now; leaves = c.args.leaves.now; nodes = map rc_value c.args.nodes.now } in
+    let graph : Graph = graph_in c.args.graph in
     let made = c.as_slice-made.ensures in
     let k = c.key_at-key.ensures in
     let ends = ends-of-key graph c.as_slice-made.result.now c.args.growths c.key_at-key.result (key_at c.args.keys.now c.args.number) c.ends_by-ends.result made k c.ends_by-ends.ensures in

@@ -8,10 +8,10 @@ pub returns-in_err-kept : goal.returns-in_err-kept
 returns-in_err-kept g c = stops _ _ _ _ _ _ refl c.from_residual.ensures.1
 
 pub returns-in_err-least : goal.returns-in_err-least
-returns-in_err-least g c = error_first _ c.in_err-least.ensures (ap (least_kept c.args.last) c.in_ok-kept.ensures) c.from_residual-in_err-least.ensures.1
+returns-in_err-least g c = error_first _ c.in_err-least.ensures (ap (least_kept c.args.growth.last.now) c.in_ok-kept.ensures) c.from_residual-in_err-least.ensures.1
 
 pub returns-in_err-kept_bound : goal.returns-in_err-kept_bound
-returns-in_err-kept_bound g c = value_first _ c.in_ok-least.ensures (ap (least_kept c.args.last) c.in_ok-kept.ensures) (stops _ _ _ _ _ _ refl c.from_residual-in_err-kept_bound.ensures.1)
+returns-in_err-kept_bound g c = value_first _ c.in_ok-least.ensures (ap (least_kept c.args.growth.last.now) c.in_ok-kept.ensures) (stops _ _ _ _ _ _ refl c.from_residual-in_err-kept_bound.ensures.1)
 
 pub returns : goal.returns
-returns g c = value_first _ c.in_ok-least.ensures (ap (least_kept c.args.last) c.in_ok-kept.ensures) (at_end c.in_ok-kept_bound.ensures)
+returns g c = value_first _ c.in_ok-least.ensures (ap (least_kept c.args.growth.last.now) c.in_ok-kept.ensures) (at_end c.in_ok-kept_bound.ensures)

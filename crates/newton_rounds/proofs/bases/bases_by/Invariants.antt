@@ -11,9 +11,9 @@ abbrev pub invariant-loop-proc : goal.invariant-loop-proc
 invariant-loop-proc g l =
     record {
       leads :
-          Leads g.O.Oracle.asking l.initial.oracle l.oracle l.initial.log l.log (each (with_base l.program l.known) [] (members_of l.program l.procs))
-          (each (with_base l.program l.known) l.made (members_of l.program (drop l.proc-index l.procs)));
+          Leads g.O.Oracle.asking l.initial.oracle l.oracle l.initial.log l.log (each (with_base l.group.program.now l.group.known.now) [] (members_of l.group.program.now l.group.procs.now))
+          (each (with_base l.group.program.now l.group.known.now) l.made (members_of l.group.program.now (drop l.proc-index l.group.procs.now)));
       -- bases of those that are left are bases of all, behind what is made
       fits :
-          (rest : List Transition) → AreBases (ends_of_members l.program (drop l.proc-index l.procs)) rest → AreBases (ends_of_members l.program l.procs) (l.made ++ rest);
+          (rest : List Transition) → AreBases (ends_of_members l.group.program.now (drop l.proc-index l.group.procs.now)) rest → AreBases l.group.members.now (l.made ++ rest);
     }

@@ -12,35 +12,35 @@ use Rattle.newton_rounds.proofs.closure.leaves_of.Goals as goal
 pub bounds-members-call : goal.bounds-members-call
 bounds-members-call c =
     let long = c.requires.each in
-    let calls = call-at (IsStretchIn c.args.members.now) (λ (call : own.GroupCall). (call.caller < length c.args.members.now) × (call.callee < length c.args.members.now))
-    (λ call one h. (h.caller, h.callee)) c.args.calls.now c.args.sides.now long c.requires.group.calls in
-    let at : (c.index-calls-i.result.caller < length c.args.members.now) × (c.index-calls-i.result.callee < length c.args.members.now) =
-    each-read (λ (call : own.GroupCall). (call.caller < length c.args.members.now) × (call.callee < length c.args.members.now)) c.args.calls.now c.loop-i.i c.index-calls-i.result c.loop-i-test.true c.index-calls-i.is calls in
+    let calls = call-at (IsStretchIn c.args.graph.members.now) (λ (call : own.GroupCall). (call.caller < length c.args.graph.members.now) × (call.callee < length c.args.graph.members.now))
+    (λ call one h. (h.caller, h.callee)) c.args.graph.calls.now c.args.graph.sides.now long c.requires.group.calls in
+    let at : (c.index-calls-i.result.caller < length c.args.graph.members.now) × (c.index-calls-i.result.callee < length c.args.graph.members.now) =
+    each-read (λ (call : own.GroupCall). (call.caller < length c.args.graph.members.now) × (call.callee < length c.args.graph.members.now)) c.args.graph.calls.now c.loop-i.i c.index-calls-i.result c.loop-i-test.true c.index-calls-i.is calls in
     at.0
 
 pub bounds-members-call-in-loop-i : goal.bounds-members-call-in-loop-i
 bounds-members-call-in-loop-i c =
     let long = c.requires.each in
-    let calls = call-at (IsStretchIn c.args.members.now) (λ (call : own.GroupCall). (call.caller < length c.args.members.now) × (call.callee < length c.args.members.now))
-    (λ call one h. (h.caller, h.callee)) c.args.calls.now c.args.sides.now long c.requires.group.calls in
-    let at : (c.index-calls-i.result.caller < length c.args.members.now) × (c.index-calls-i.result.callee < length c.args.members.now) =
-    each-read (λ (call : own.GroupCall). (call.caller < length c.args.members.now) × (call.callee < length c.args.members.now)) c.args.calls.now c.loop-i.i c.index-calls-i.result c.loop-i-test.true c.index-calls-i.is calls in
+    let calls = call-at (IsStretchIn c.args.graph.members.now) (λ (call : own.GroupCall). (call.caller < length c.args.graph.members.now) × (call.callee < length c.args.graph.members.now))
+    (λ call one h. (h.caller, h.callee)) c.args.graph.calls.now c.args.graph.sides.now long c.requires.group.calls in
+    let at : (c.index-calls-i.result.caller < length c.args.graph.members.now) × (c.index-calls-i.result.callee < length c.args.graph.members.now) =
+    each-read (λ (call : own.GroupCall). (call.caller < length c.args.graph.members.now) × (call.callee < length c.args.graph.members.now)) c.args.graph.calls.now c.loop-i.i c.index-calls-i.result c.loop-i-test.true c.index-calls-i.is calls in
     at.1
 
 pub pair_formula-requires : goal.pair_formula-requires
 pair_formula-requires c =
-    let members = c.args.members.now in
+    let members = c.args.graph.members.now in
     let s = stretch_of c.index-calls-i.result c.index-sides-i.result in
-    let h = stretch-at (IsStretchIn members) c.args.calls.now c.args.sides.now c.loop-i.i c.index-calls-i.result c.index-sides-i.result c.loop-i-test.true c.requires.each c.index-calls-i.is c.index-sides-i.is c.requires.group.calls in
+    let h = stretch-at (IsStretchIn members) c.args.graph.calls.now c.args.graph.sides.now c.loop-i.i c.index-calls-i.result c.index-sides-i.result c.loop-i-test.true c.requires.each c.index-calls-i.is c.index-sides-i.is c.requires.group.calls in
     let caller = read-at members c.index-calls-i.result.caller c.index-members-call.result no_pair h.caller c.index-members-call.is in
     let callee = read-at members c.index-calls-i.result.callee c.index-members-call-in-loop-i.result no_pair h.callee c.index-members-call-in-loop-i.is in
     subst (λ (both : PairEnds × PairEnds). IsStretchBetween both.0 both.1 s) (λ i. (caller i, callee i)) h.is
 
 pub loop-i-preserved : goal.loop-i-preserved
 loop-i-preserved c =
-    let members = c.args.members.now in
-    let calls = c.args.calls.now in
-    let sides = c.args.sides.now in
+    let members = c.args.graph.members.now in
+    let calls = c.args.graph.calls.now in
+    let sides = c.args.graph.sides.now in
     let s = stretch_of c.index-calls-i.result c.index-sides-i.result in
     let rest = stretches_with (map plain_call (drop (c.loop-i.i + 1) calls)) (drop (c.loop-i.i + 1) sides) in
     let h = stretch-at (IsStretchIn members) calls sides c.loop-i.i c.index-calls-i.result c.index-sides-i.result c.loop-i-test.true c.requires.each c.index-calls-i.is c.index-sides-i.is c.requires.group.calls in

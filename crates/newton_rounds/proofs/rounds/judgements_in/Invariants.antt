@@ -7,5 +7,5 @@ use Rattle.newton_rounds.proofs.rounds.judgements_in.Given as goal
 
 abbrev pub invariant-loop-place : goal.invariant-loop-place
 invariant-loop-place g l =
-    Leads g.O.Oracle.asking l.initial.oracle l.oracle l.initial.log l.log (each (with_round l.program l.known) no_judgements (members_with (members_of l.program l.procs) l.candidates))
-    (each (with_round l.program l.known) l.made (members_with (members_of l.program (drop l.place l.procs)) (drop l.place l.candidates)))
+    Leads g.O.Oracle.asking l.initial.oracle l.oracle l.initial.log l.log (each (with_round l.group.program.now l.group.known.now) no_judgements (members_with (members_of l.group.program.now l.group.procs.now) l.candidates))
+    (each (with_round l.group.program.now l.group.known.now) l.made (members_with (members_of l.group.program.now (drop l.place l.group.procs.now)) (drop l.place l.candidates)))

@@ -4,7 +4,6 @@ use Rattle.posing.specs.Posing.{until}
 use Rattle.newton_rounds.specs.declared.findings.RoundEnd.{RoundEnd}
 use Rattle.newton_rounds.specs.Between.{AreCandidates, row_count}
 use Rattle.newton_rounds.specs.Candidates.{before_rounds, most_rounds, round}
-use Rattle.newton_rounds.specs.Closure.{ends_of_members}
 use Rattle.newton_rounds.proofs.RoundRows.{AreRounds}
 use Rattle.newton_rounds.proofs.rounds.last_round.Given as goal
 
@@ -13,9 +12,9 @@ invariant-loop-dropped g l =
     record {
       turns :
           AreRounds g.O.Oracle.asking l.initial.oracle l.oracle l.initial.log l.log
-          (until (λ (end : RoundEnd). round l.program l.procs l.known end.candidates) (most_rounds l.fn.candidates) (before_rounds l.fn.candidates))
-          (λ (end : RoundEnd). round l.program l.procs l.known end.candidates) l.left l.dropped;
-      over : AreCandidates (ends_of_members l.program l.procs) l.left.candidates;
+          (until (λ (end : RoundEnd). round l.group.program.now l.group.procs.now l.group.known.now end.candidates) (most_rounds l.fn.candidates) (before_rounds l.fn.candidates))
+          (λ (end : RoundEnd). round l.group.program.now l.group.procs.now l.group.known.now end.candidates) l.left l.dropped;
+      over : AreCandidates l.group.members.now l.left.candidates;
     }
 
 abbrev pub decreases-loop-dropped : goal.decreases-loop-dropped

@@ -12,11 +12,11 @@ use Rattle.newton_rounds.proofs.rounds.with_round.Goals as goal
 
 pub judgements_by-requires : goal.judgements_by-requires
 judgements_by-requires g c =
-    let program = c.args.program.now in
+    let program = c.args.group.program.now in
     let there = some_at program.procs c.args.proc c.requires.procedure in
     let p = there.0 in
     each-more (IsRowOver (pair_ends program p).pair.columns) (IsRefutable c.in_ok-f.f)
-    (λ row over. row-refutable program c.requires.formed.globals p c.in_ok-f.f row (c.in_ok-f.ensures.known p there.1) over) c.args.rows.now (c.requires.rows p there.1)
+    (λ row over. row-refutable program c.requires.group.formed.globals p c.in_ok-f.f row (c.in_ok-f.ensures.known p there.1) over) c.args.rows.now (c.requires.rows p there.1)
 
 pub returns : goal.returns
 unfolding with_round

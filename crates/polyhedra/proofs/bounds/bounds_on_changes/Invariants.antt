@@ -7,5 +7,5 @@ use Rattle.polyhedra.proofs.bounds.bounds_on_changes.Given as goal
 
 abbrev pub invariant-loop-d : goal.invariant-loop-d
 invariant-loop-d g l =
-    (Leads g.O.Oracle.asking l.initial.oracle l.oracle l.initial.log l.log (each (bounded_change l.cases l.moved l.turns) l.fn.rows l.directions) (each (bounded_change l.cases l.moved l.turns) l.made (drop l.d-index l.directions)))
-    × AreOver l.cases l.goals
+    (Leads g.O.Oracle.asking l.initial.oracle l.oracle l.initial.log l.log (each (bounded_change l.changes.cases.now l.changes.moved.now l.changes.turns) l.fn.rows l.directions) (each (bounded_change l.changes.cases.now l.changes.moved.now l.changes.turns) l.made (drop l.d-index l.directions)))
+    × AreOver l.changes.cases.now l.goals

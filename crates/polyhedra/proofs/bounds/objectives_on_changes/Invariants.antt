@@ -7,4 +7,4 @@ use Rattle.polyhedra.proofs.bounds.objectives_on_changes.Given as goal
 
 abbrev pub invariant-loop-place : goal.invariant-loop-place
 invariant-loop-place l =
-    objectives_behind l.objectives (objectives_of (λ case. put_into (for_entries (change true case)) l.d) (drop l.place l.cases)) ≡ objectives_of (λ case. put_into (for_entries (change true case)) l.d) l.cases
+    objectives_behind l.objectives (objectives_of (λ case. put_into (for_entries (change true case)) l.d) (drop l.place l.changes.cases.now)) ≡ objectives_of (λ case. put_into (for_entries (change true case)) l.d) l.changes.cases.now

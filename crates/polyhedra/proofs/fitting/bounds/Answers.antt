@@ -10,7 +10,7 @@ use Rattle.polyhedra.proofs.fitting.bounds.Goals as goal
 
 pub exit_bounds-requires : goal.exit_bounds-requires
 exit_bounds-requires g c =
-    let few = modified-few c.args.one c.args.f.now in
+    let few = modified-few c.args.fitting.one c.args.fitting.f.now in
     let long = ap length c.requires.modified in
     let most = c.requires.between.few_after in
     record {
@@ -23,37 +23,37 @@ exit_bounds-requires g c =
 
 pub differences-requires : goal.differences-requires
 differences-requires g c =
-    let few = modified-few c.args.one c.args.f.now in
+    let few = modified-few c.args.fitting.one c.args.fitting.f.now in
     let long = ap length c.requires.modified in
     let most = c.requires.between.few_after in
     record {
       columns = c.requires.between.starts;
       valid = c.requires.between.from_is;
-      ends = same-ends c.args.one c.args.f.now c.args.from.now c.args.to.now c.requires.between c.requires.one;
+      ends = same-ends c.args.fitting.one c.args.fitting.f.now c.args.fitting.from.now c.args.fitting.to.now c.requires.between c.requires.one;
       few = omega arith;
       modified = c.requires.modified;
-      entry = c.as_slice-2.ensures ∙ c.in_ok-entry.ensures;
+      entry = c.as_slice-entry.ensures ∙ c.in_ok-directions.ensures;
     }
 
-pub returns-in_err-entry : goal.returns-in_err-entry
-returns-in_err-entry g c = stops _ _ _ _ _ _ refl c.from_residual.ensures.1
+pub returns-in_err-directions : goal.returns-in_err-directions
+returns-in_err-directions g c = stops _ _ _ _ _ _ refl c.from_residual.ensures.1
 
 pub returns-in_err-before : goal.returns-in_err-before
 unfolding with_bounds
 returns-in_err-before g c =
-    let entry = c.as_slice.ensures ∙ c.in_ok-entry.ensures in
+    let entry = c.as_slice-entry.ensures ∙ c.in_ok-directions.ensures in
     error_first _ c.in_err-before.ensures (λ i. each (rows_with_entry_bound (c.cases.ensures.cases i)) c.args.rows (entry i)) c.from_residual-in_err-before.ensures.1
 
 pub returns-in_err-both : goal.returns-in_err-both
 unfolding with_bounds
 returns-in_err-both g c =
-    let entry = c.as_slice.ensures ∙ c.in_ok-entry.ensures in
+    let entry = c.as_slice-entry.ensures ∙ c.in_ok-directions.ensures in
     value_first _ c.in_ok-before.ensures (λ i. each (rows_with_entry_bound (c.cases.ensures.cases i)) c.args.rows (entry i))
     (error_first _ c.in_err-both.ensures refl c.from_residual-in_err-both.ensures.1)
 
 pub returns : goal.returns
 unfolding with_bounds
 returns g c =
-    let entry = c.as_slice.ensures ∙ c.in_ok-entry.ensures in
+    let entry = c.as_slice-entry.ensures ∙ c.in_ok-directions.ensures in
     value_first _ c.in_ok-before.ensures (λ i. each (rows_with_entry_bound (c.cases.ensures.cases i)) c.args.rows (entry i))
     (value_first _ c.in_ok-both.ensures refl c.differences.ensures)

@@ -21,21 +21,21 @@ returns-in_err-exit g c = stops _ _ _ _ _ _ refl c.from_residual-in_err-exit.ens
 
 pub bounds_after-requires-clause-posts : goal.bounds_after-requires-clause-posts
 bounds_after-requires-clause-posts g c =
-    let f = c.args.f.now in
+    let f = c.args.fitting.f.now in
     subst (All (IsCoveredByPosts c.cases.result.now)) (sym (c.as_slice-2.ensures ∙ c.in_ok-exit.ensures))
-    (subst (λ cs. All (IsCoveredByPosts cs) (directions c.args.to.now)) (sym c.cases.ensures.cases)
-    (directions-covered_by_posts c.args.to.now c.requires.valid f.to c.requires.columns f.from f.cases c.requires.fits))
+    (subst (λ cs. All (IsCoveredByPosts cs) (directions c.args.fitting.to.now)) (sym c.cases.ensures.cases)
+    (directions-covered_by_posts c.args.fitting.to.now c.requires.valid f.to c.requires.columns f.from f.cases c.requires.fits))
 
 pub bounds_after-requires-clause-rows : goal.bounds_after-requires-clause-rows
 bounds_after-requires-clause-rows g c =
-    let f = c.args.f.now in
-    let long : length c.as_slice.result.now ≡ c.to.result = ap length (c.as_slice.ensures ∙ c.in_ok-posts.ensures) ∙ length-map-range_with_len (after_from c.args.one 0 c.args.modified.now) 0 c.to.result in
+    let f = c.args.fitting.f.now in
+    let long : length c.as_slice.result.now ≡ c.to.result = ap length (c.as_slice.ensures ∙ c.in_ok-posts.ensures) ∙ length-map-range_with_len (after_from c.args.fitting.one 0 c.args.modified.now) 0 c.to.result in
     subst (All (IsCovered (length c.as_slice.result.now))) (sym (c.as_slice-2.ensures ∙ c.in_ok-exit.ensures))
-    (directions-covered c.args.to.now c.requires.valid f.to c.requires.columns (length c.as_slice.result.now) (long ∙ c.to.ensures))
+    (directions-covered c.args.fitting.to.now c.requires.valid f.to c.requires.columns (length c.as_slice.result.now) (long ∙ c.to.ensures))
 
 pub returns : goal.returns
 returns g c =
-    let f = c.args.f.now in
+    let f = c.args.fitting.f.now in
     let exit = c.as_slice-2.ensures ∙ c.in_ok-exit.ensures in
-    let posts : c.as_slice.result.now ≡ posts_after c.args.one f = c.as_slice.ensures ∙ c.in_ok-posts.ensures ∙ (λ i. map (after_from c.args.one 0 (c.requires.modified i)) (range_with_len 0 (c.to.ensures i))) in
+    let posts : c.as_slice.result.now ≡ posts_after c.args.fitting.one f = c.as_slice.ensures ∙ c.in_ok-posts.ensures ∙ (λ i. map (after_from c.args.fitting.one 0 (c.requires.modified i)) (range_with_len 0 (c.to.ensures i))) in
     in_other_words (λ i. each (rows_with_exit_bound (c.cases.ensures.cases i) (posts i)) c.args.rows (exit i)) c.bounds_after.ensures

@@ -6,9 +6,9 @@ use Rattle.polyhedra.proofs.fitting.noted_posts.Goals as goal
 
 pub returns-clause-noted : goal.returns-clause-noted
 returns-clause-noted c =
-    subst (HasNoted c.args.log.now c.add_losses.new.self) (ap loss_notes c.as_slice-2.ensures ∙ c.requires.lost) c.in_ok-add_losses.ensures
+    subst (HasNoted c.args.log.now c.add_losses.new.self) (ap loss_notes c.as_slice.ensures ∙ c.requires.lost) c.in_ok-add_losses.ensures
 
 pub returns-clause-exact : goal.returns-clause-exact
 returns-clause-exact c =
-    let variables = c.as_slice.ensures ∙ c.requires.modified in
-    c.in_ok-posts.ensures ∙ (λ i. map (after_from c.args.one 0 (variables i)) (range_with_len 0 (c.to.ensures i)))
+    let variables = c.as_slice-modified.ensures ∙ c.requires.modified in
+    c.in_ok-posts.ensures ∙ (λ i. map (after_from c.args.fitting.one 0 (variables i)) (range_with_len 0 (c.to.ensures i)))

@@ -6,7 +6,7 @@ use Rattle.polyhedra.proofs.fitting.squash_rows.Goals as goal
 
 pub change_relations-requires : goal.change_relations-requires
 change_relations-requires g c =
-    let few = modified-few c.args.one c.args.f.now in
+    let few = modified-few c.args.fitting.one c.args.fitting.f.now in
     let long = ap length (c.as_slice.ensures ∙ c.requires.modified) in
     let most = c.requires.between.few_after in
     record {
@@ -19,7 +19,7 @@ change_relations-requires g c =
 
 pub bounds-requires : goal.bounds-requires
 bounds-requires g c =
-    record { between = c.requires.between; one = c.requires.one; modified = c.as_slice-4.ensures ∙ c.requires.modified }
+    record { between = c.requires.between; one = c.requires.one; modified = c.as_slice.ensures ∙ c.requires.modified }
 
 pub returns-in_err-equations : goal.returns-in_err-equations
 unfolding squash_rows

@@ -7,11 +7,11 @@ use Rattle.polyhedra.proofs.fitting.squashed_case.Goals as goal
 
 pub overflow_cast-aux : goal.overflow_cast-aux
 overflow_cast-aux g c =
-    let few = modified-few c.args.one c.args.f.now in let long = c.len-aux.ensures ∙ ap length c.in_ok-movement.ensures.modified in let most = c.requires.between.few_after in omega arith
+    let few = modified-few c.args.fitting.one c.args.fitting.f.now in let long = c.len-aux.ensures ∙ ap length c.in_ok-movement.ensures.modified in let most = c.requires.between.few_after in omega arith
 
 pub noted_posts-requires : goal.noted_posts-requires
 noted_posts-requires g c =
-    let few = modified-few c.args.one c.args.f.now in
+    let few = modified-few c.args.fitting.one c.args.fitting.f.now in
     let long = ap length c.in_ok-movement.ensures.modified in
     let most = c.requires.between.few_after in
     record { few = omega arith; modified = c.in_ok-movement.ensures.modified; lost = c.in_ok-movement.ensures.lost }

@@ -17,10 +17,10 @@ returns-clause-follows g c = λ p is. as_value (c.in_ok-cells.ensures ∙ ap for
 
 pub returns-clause-fits : goal.returns-clause-fits
 returns-clause-fits g c = λ p is.
-    subst (AreFittedCells (graph_by (subject_of c.args.program.now p c.args.known.now)) c.args.source)
+    subst (AreFittedCells (graph_by (subject_of c.args.own.program.now p c.args.own.known.now)) c.args.source)
     (sym (c.in_ok-cells.ensures ∙ ap formulas_of c.as_slice.ensures)) (c.in_ok-trees.ensures.fits p is)
 
 pub returns-clause-holds : goal.returns-clause-holds
 returns-clause-holds g c = λ p is.
-    subst (HoldsOfWalks c.args.program.now p c.args.known.now c.args.source)
+    subst (HoldsOfWalks c.args.own.program.now p c.args.own.known.now c.args.source)
     (sym (c.in_ok-cells.ensures ∙ ap formulas_of c.as_slice.ensures)) (c.in_ok-trees.ensures.holds p is)

@@ -3,6 +3,9 @@ use Rattle.proc_summary.proofs.CratesBelow.{some_at}
 use Rattle.proc_summary.proofs.Graphs.{nodes-are}
 use Rattle.proc_summary.proofs.nodes.trees.Goals as goal
 
+pub trees_in-requires-clause-own : goal.trees_in-requires-clause-own
+trees_in-requires-clause-own g c = record { formed = c.requires.formed; procedure = c.requires.procedure; graph = c.in_ok-graph.ensures; known = c.requires.known }
+
 pub trees_in-requires-clause-source : goal.trees_in-requires-clause-source
 trees_in-requires-clause-source g c =
     let there = some_at c.args.program.now.procs c.args.proc c.requires.procedure in

@@ -10,6 +10,9 @@ use Rattle.proc_summary.proofs.Flows.{flow-fits, flow-holds, flow-is, some-graph
 use Rattle.proc_summary.proofs.Graphs.{columns-is}
 use Rattle.proc_summary.proofs.stops.flow.Goals as goal
 
+pub cells_of-requires-clause-own : goal.cells_of-requires-clause-own
+cells_of-requires-clause-own g c = record { formed = c.requires.formed; procedure = c.requires.procedure; graph = c.in_ok-graph.ensures; known = c.requires.known }
+
 pub cells_of-requires-clause-source : goal.cells_of-requires-clause-source
 cells_of-requires-clause-source g c =
     let there = some_at c.args.program.now.procs c.args.proc c.requires.procedure in

@@ -7,7 +7,7 @@ pub loop-term-init : goal.loop-term-init
 loop-term-init g c = leads_none _ _ _ _
 
 pub returns-in_err-made : goal.returns-in_err-made
-returns-in_err-made g c = each_fails (by_term c.args.cases.now c.args.modified.now c.args.v c.args.up.now) _ _ c.loop-term.invariant c.loop-term-test.true c.term-item.is c.in_err-made.ensures c.from_residual.ensures.1
+returns-in_err-made g c = each_fails (by_term c.args.turns c.args.change) _ _ c.loop-term.invariant c.loop-term-test.true c.term-item.is c.in_err-made.ensures c.from_residual.ensures.1
 
 pub loop-term-preserved : goal.loop-term-preserved
-loop-term-preserved g c = each_next (by_term c.args.cases.now c.args.modified.now c.args.v c.args.up.now) _ _ c.loop-term.invariant c.loop-term-test.true c.term-item.is c.in_ok-made.ensures
+loop-term-preserved g c = each_next (by_term c.args.turns c.args.change) _ _ c.loop-term.invariant c.loop-term-test.true c.term-item.is c.in_ok-made.ensures

@@ -14,7 +14,7 @@ pub loop-v-init : goal.loop-v-init
 loop-v-init g c = leads_none _ _ _ _
 
 pub returns-in_err-made : goal.returns-in_err-made
-returns-in_err-made g c = each_fails (by_variable c.args.cases.now c.args.modified.now c.args.terms.now) _ _ c.loop-v.invariant c.loop-v-test.true (get-default c.args.variables.now c.loop-v.v-index _ _ c.loop-v-test.true) c.in_err-made.ensures c.from_residual.ensures.1
+returns-in_err-made g c = each_fails (by_variable c.args.turns) _ _ c.loop-v.invariant c.loop-v-test.true (get-default c.args.variables.now c.loop-v.v-index _ _ c.loop-v-test.true) c.in_err-made.ensures c.from_residual.ensures.1
 
 pub loop-v-preserved : goal.loop-v-preserved
-loop-v-preserved g c = each_next (by_variable c.args.cases.now c.args.modified.now c.args.terms.now) _ _ c.loop-v.invariant c.loop-v-test.true (get-default c.args.variables.now c.loop-v.v-index _ _ c.loop-v-test.true) c.in_ok-made.ensures
+loop-v-preserved g c = each_next (by_variable c.args.turns) _ _ c.loop-v.invariant c.loop-v-test.true (get-default c.args.variables.now c.loop-v.v-index _ _ c.loop-v-test.true) c.in_ok-made.ensures

@@ -6,4 +6,4 @@ use Rattle.recurrence.proofs.progressions.with_variables.Given as goal
 
 abbrev pub invariant-loop-v : goal.invariant-loop-v
 invariant-loop-v g l =
-    Leads g.O.Oracle.asking l.initial.oracle l.oracle l.initial.log l.log (each (by_variable l.cases l.modified l.terms) l.fn.rows l.variables) (each (by_variable l.cases l.modified l.terms) l.made (drop l.v-index l.variables))
+    Leads g.O.Oracle.asking l.initial.oracle l.oracle l.initial.log l.log (each (by_variable l.turns) l.fn.rows l.variables) (each (by_variable l.turns) l.made (drop l.v-index l.variables))

@@ -16,10 +16,10 @@ is_asked true body lower e = refl
 is_asked false body lower e = cc
 
 pub returns-then-not-asked : goal.returns-then-not-asked
-returns-then-not-asked g c = in_other_words (none_asked c.args.asked c.args.body.now _ c.if-not-asked.true) (at_end refl)
+returns-then-not-asked g c = in_other_words (none_asked c.args.asked c.args.body.formula.now _ c.if-not-asked.true) (at_end refl)
 
 pub returns-in_err-lower : goal.returns-in_err-lower
 returns-in_err-lower g c = stops _ _ _ _ _ _ refl c.from_residual.ensures.1
 
 pub returns : goal.returns
-returns g c = in_other_words (ap (stratum c.args.body.now) (c.as_slice.ensures ∙ c.in_ok-lower.ensures) ∙ is_asked c.args.asked c.args.body.now _ c.if-not-asked.false) c.one_stratum.ensures
+returns g c = in_other_words (ap (stratum c.args.body.formula.now) (c.as_slice.ensures ∙ c.in_ok-lower.ensures) ∙ is_asked c.args.asked c.args.body.formula.now _ c.if-not-asked.false) c.one_stratum.ensures

@@ -13,10 +13,10 @@ use Rattle.recurrence.proofs.RisingNumbers.{moving-rises}
 use Rattle.recurrence.proofs.stratifying.one_stratum.Goals as goal
 
 pub question_of-question-requires : goal.question_of-question-requires
-question_of-question-requires g c = subst (λ cs. IsTrue (have_equally_many cs)) (sym (c.in_ok-cases.ensures ∙ c.requires.cases)) (equally_many true c.args.body.now)
+question_of-question-requires g c = subst (λ cs. IsTrue (have_equally_many cs)) (sym (c.in_ok-cases.ensures ∙ c.requires.cases)) (equally_many true c.args.body.formula.now)
 
 pub terms_of-requires : goal.terms_of-requires
-terms_of-requires g c = subst Rise (sym (c.as_slice.ensures ∙ c.requires.moving)) (moving-rises c.args.body.now)
+terms_of-requires g c = subst Rise (sym (c.as_slice.ensures ∙ c.requires.moving)) (moving-rises c.args.body.formula.now)
 
 pub returns-in_err-cases : goal.returns-in_err-cases
 returns-in_err-cases g c = stops _ _ _ _ _ _ refl c.from_residual.ensures.1

@@ -15,11 +15,11 @@ one_stratum-requires g c = c.requires.movement
 
 pub next_stratum-requires : goal.next_stratum-requires
 next_stratum-requires g c =
-    let body = c.args.body.now in
+    let body = c.args.body.formula.now in
     let ms = c.args.products.now in
     let moving = c.as_slice-moving.ensures ∙ c.requires.movement.moving in
     let none : c.in_ok-unsolved.unsolved ≡ unmodified_columns body ms =
-    c.in_ok-unsolved.ensures ∙ (λ i. unmodified_columns_by ((c.as_slice.ensures ∙ c.requires.movement.modified) i) (c.to.ensures i) ms) ∙ unchanged-same body ms in
+    c.in_ok-unsolved.ensures ∙ (λ i. unmodified_columns_by ((c.as_slice-modified.ensures ∙ c.requires.movement.modified) i) (c.to.ensures i) ms) ∙ unchanged-same body ms in
     let some : c.in_ok-known.known ≡ with_terms body (unmodified_columns body ms) c.in_ok-first.first =
     c.in_ok-known.ensures ∙ (λ i. fold (with_term (moving i)) (none i) (unwrap_or c.in_ok-first.first [])) in
     let solved : c.as_slice-solved.result.now ≡ with_terms body (unmodified_columns body ms) c.in_ok-first.first = c.as_slice-solved.ensures ∙ some in
@@ -31,11 +31,11 @@ next_stratum-requires g c =
 
 pub next_stratum-requires-2 : goal.next_stratum-requires-2
 next_stratum-requires-2 g c =
-    let body = c.args.body.now in
+    let body = c.args.body.formula.now in
     let ms = c.args.products.now in
     let moving = c.as_slice-moving.ensures ∙ c.requires.movement.moving in
     let none : c.in_ok-unsolved.unsolved ≡ unmodified_columns body ms =
-    c.in_ok-unsolved.ensures ∙ (λ i. unmodified_columns_by ((c.as_slice.ensures ∙ c.requires.movement.modified) i) (c.to.ensures i) ms) ∙ unchanged-same body ms in
+    c.in_ok-unsolved.ensures ∙ (λ i. unmodified_columns_by ((c.as_slice-modified.ensures ∙ c.requires.movement.modified) i) (c.to.ensures i) ms) ∙ unchanged-same body ms in
     let some : c.in_ok-known.known ≡ with_terms body (unmodified_columns body ms) c.in_ok-first.first =
     c.in_ok-known.ensures ∙ (λ i. fold (with_term (moving i)) (none i) (unwrap_or c.in_ok-first.first [])) in
     let solved : c.as_slice-solved.result.now ≡ with_terms body (unmodified_columns body ms) c.in_ok-first.first = c.as_slice-solved.ensures ∙ some in
@@ -62,11 +62,11 @@ returns-in_err-known g c = value_first _ c.in_ok-first.ensures refl (stops _ _ _
 pub returns-in_err-second : goal.returns-in_err-second
 unfolding strata
 returns-in_err-second g c =
-    let body = c.args.body.now in
+    let body = c.args.body.formula.now in
     let ms = c.args.products.now in
     let moving = c.as_slice-moving.ensures ∙ c.requires.movement.moving in
     let none : c.in_ok-unsolved.unsolved ≡ unmodified_columns body ms =
-    c.in_ok-unsolved.ensures ∙ (λ i. unmodified_columns_by ((c.as_slice.ensures ∙ c.requires.movement.modified) i) (c.to.ensures i) ms) ∙ unchanged-same body ms in
+    c.in_ok-unsolved.ensures ∙ (λ i. unmodified_columns_by ((c.as_slice-modified.ensures ∙ c.requires.movement.modified) i) (c.to.ensures i) ms) ∙ unchanged-same body ms in
     let some : c.in_ok-known.known ≡ with_terms body (unmodified_columns body ms) c.in_ok-first.first =
     c.in_ok-known.ensures ∙ (λ i. fold (with_term (moving i)) (none i) (unwrap_or c.in_ok-first.first [])) in
     let solved : c.as_slice-solved.result.now ≡ with_terms body (unmodified_columns body ms) c.in_ok-first.first = c.as_slice-solved.ensures ∙ some in
@@ -77,11 +77,11 @@ returns-in_err-second g c =
 pub returns-in_err-more : goal.returns-in_err-more
 unfolding strata
 returns-in_err-more g c =
-    let body = c.args.body.now in
+    let body = c.args.body.formula.now in
     let ms = c.args.products.now in
     let moving = c.as_slice-moving.ensures ∙ c.requires.movement.moving in
     let none : c.in_ok-unsolved.unsolved ≡ unmodified_columns body ms =
-    c.in_ok-unsolved.ensures ∙ (λ i. unmodified_columns_by ((c.as_slice.ensures ∙ c.requires.movement.modified) i) (c.to.ensures i) ms) ∙ unchanged-same body ms in
+    c.in_ok-unsolved.ensures ∙ (λ i. unmodified_columns_by ((c.as_slice-modified.ensures ∙ c.requires.movement.modified) i) (c.to.ensures i) ms) ∙ unchanged-same body ms in
     let some : c.in_ok-known.known ≡ with_terms body (unmodified_columns body ms) c.in_ok-first.first =
     c.in_ok-known.ensures ∙ (λ i. fold (with_term (moving i)) (none i) (unwrap_or c.in_ok-first.first [])) in
     let solved : c.as_slice-solved.result.now ≡ with_terms body (unmodified_columns body ms) c.in_ok-first.first = c.as_slice-solved.ensures ∙ some in
@@ -92,11 +92,11 @@ returns-in_err-more g c =
 pub returns-in_err-third : goal.returns-in_err-third
 unfolding strata
 returns-in_err-third g c =
-    let body = c.args.body.now in
+    let body = c.args.body.formula.now in
     let ms = c.args.products.now in
     let moving = c.as_slice-moving.ensures ∙ c.requires.movement.moving in
     let none : c.in_ok-unsolved.unsolved ≡ unmodified_columns body ms =
-    c.in_ok-unsolved.ensures ∙ (λ i. unmodified_columns_by ((c.as_slice.ensures ∙ c.requires.movement.modified) i) (c.to.ensures i) ms) ∙ unchanged-same body ms in
+    c.in_ok-unsolved.ensures ∙ (λ i. unmodified_columns_by ((c.as_slice-modified.ensures ∙ c.requires.movement.modified) i) (c.to.ensures i) ms) ∙ unchanged-same body ms in
     let some : c.in_ok-known.known ≡ with_terms body (unmodified_columns body ms) c.in_ok-first.first =
     c.in_ok-known.ensures ∙ (λ i. fold (with_term (moving i)) (none i) (unwrap_or c.in_ok-first.first [])) in
     let solved : c.as_slice-solved.result.now ≡ with_terms body (unmodified_columns body ms) c.in_ok-first.first = c.as_slice-solved.ensures ∙ some in
@@ -112,11 +112,11 @@ returns-in_err-third g c =
 pub returns : goal.returns
 unfolding strata
 returns g c =
-    let body = c.args.body.now in
+    let body = c.args.body.formula.now in
     let ms = c.args.products.now in
     let moving = c.as_slice-moving.ensures ∙ c.requires.movement.moving in
     let none : c.in_ok-unsolved.unsolved ≡ unmodified_columns body ms =
-    c.in_ok-unsolved.ensures ∙ (λ i. unmodified_columns_by ((c.as_slice.ensures ∙ c.requires.movement.modified) i) (c.to.ensures i) ms) ∙ unchanged-same body ms in
+    c.in_ok-unsolved.ensures ∙ (λ i. unmodified_columns_by ((c.as_slice-modified.ensures ∙ c.requires.movement.modified) i) (c.to.ensures i) ms) ∙ unchanged-same body ms in
     let some : c.in_ok-known.known ≡ with_terms body (unmodified_columns body ms) c.in_ok-first.first =
     c.in_ok-known.ensures ∙ (λ i. fold (with_term (moving i)) (none i) (unwrap_or c.in_ok-first.first [])) in
     let solved : c.as_slice-solved.result.now ≡ with_terms body (unmodified_columns body ms) c.in_ok-first.first = c.as_slice-solved.ensures ∙ some in

@@ -2,7 +2,6 @@ use Rattle.std.proofs.Common.{◌≡◌, List, ◌++◌, true, All, Some, map, l
 use Rattle.std.specs.List.{range_with_len}
 use Rattle.std.proofs.lemmas.List.FromFn.{length-map-range_with_len}
 use Rattle.linear_terms.specs.declared.col.Col.TheVariants.{Aux}
-use Rattle.linear_terms.specs.declared.row.Case.{Case}
 use Rattle.linear_terms.specs.declared.row.Row.{Row}
 use Rattle.transition_formula.specs.Transition.{Transition}
 use Rattle.posing.specs.Posing.{◌>>=◌, each}
@@ -12,7 +11,7 @@ use Rattle.posing.proofs.Steps.{value_first, error_first, in_other_words}
 use Rattle.polyhedra.specs.Bounds.{IsCovered, IsCoveredByPosts, rows_with_entry_bound, rows_with_exit_bound, bounded_change}
 use Rattle.polyhedra.specs.Directions.{directions}
 use Rattle.polyhedra.specs.Squash.{after_from, change_after}
-use Rattle.polyhedra.proofs.Coverage.{directions-covered, directions-covered_by_posts, posts-long}
+use Rattle.polyhedra.proofs.Coverage.{directions-covered, directions-covered_by_posts}
 use Rattle.polyhedra.specs.Vocabulary.{Vocabulary}
 use Rattle.recurrence.specs.Star.{count, posts, moves}
 use Rattle.recurrence.specs.Words.{bound_rows, bounds_at_ends}
@@ -72,7 +71,7 @@ returns g c =
     let turns = c.turn_count-count.ensures ∙ ap (λ us. Aux (length us)) c.requires.modified.are in
     in_other_words (ends-first body c.args.voc.now c.args.rows)
     (value_first _ c.in_ok-both.ensures (λ i. bounds_at_ends (c.cases-cases.ensures.cases i) (after i) (along i) c.args.rows)
-    (in_other_words (λ i. each (bounded_change (c.cases-cases.ensures.cases i) (changed i) (Some (turns i))) c.in_ok-both.both (more i)) c.bounds_on_changes.ensures))
+    (in_other_words (λ i. each (bounded_change body.cases (changed i) (Some (turns i))) c.in_ok-both.both (more i)) c.bounds_on_changes.ensures))
 
 pub bounds_at_ends-requires-clause-posts : goal.bounds_at_ends-requires-clause-posts
 bounds_at_ends-requires-clause-posts g c =
@@ -90,16 +89,10 @@ bounds_at_ends-requires-clause-rows g c =
     subst (All (IsCovered (length c.as_slice.result.now))) (sym (c.as_slice-along.ensures ∙ c.in_ok-directions.ensures))
     (directions-covered c.args.voc.now s.vocabulary body.to s.same_columns (length c.as_slice.result.now) (long ∙ c.to.ensures))
 
-pub bounds_on_changes-requires-clause-posts : goal.bounds_on_changes-requires-clause-posts
-bounds_on_changes-requires-clause-posts g c =
-    let body = c.args.body.now in
-    subst (λ n. All (λ (case : Case). length case.post ≡ n) c.cases-cases.result.now) (sym c.to-3.ensures)
-    (posts-long body.from body.to c.cases-cases.result.now c.cases-cases.ensures.fit)
-
 pub bounds_on_changes-requires-clause-columns : goal.bounds_on_changes-requires-clause-columns
 bounds_on_changes-requires-clause-columns g c =
     let more = c.as_slice-3.ensures ∙ c.in_ok-add_extra.ensures ∙ ap (λ ds. ds ++ c.args.voc.now.extra) c.in_ok-directions.ensures in
-    subst (All (IsCovered c.to-3.result)) (sym more) (all-covered c.args.body.now c.args.voc.now c.requires.starred c.to-3.result c.to-3.ensures)
+    subst (All (IsCovered c.args.body.now.to)) (sym more) (all-covered c.args.body.now c.args.voc.now c.requires.starred c.args.body.now.to refl)
 
 pub bounds_on_changes-requires-clause-rows : goal.bounds_on_changes-requires-clause-rows
 bounds_on_changes-requires-clause-rows g c =

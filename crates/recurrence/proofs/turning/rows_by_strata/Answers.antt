@@ -12,7 +12,7 @@ strata_of-requires g c = record { ends = c.requires.starred.same_ends; movement 
 
 pub rows_of-requires : goal.rows_of-requires
 rows_of-requires g c =
-    let is : c.as_slice-monos.result.now ≡ products c.args.body.now c.args.voc.now =
+    let is : c.as_slice-monos.result.now ≡ products c.args.body.formula.now c.args.voc.now =
     c.as_slice-monos.ensures ∙ c.in_ok-products.ensures ∙ (λ i. if has_products c.args.voc.now.rule then products_in (c.requires.movement.cases i) else []) in
     record { starred = c.requires.starred; movement = c.requires.movement; products = is }
 
@@ -22,13 +22,13 @@ returns-in_err-products g c = stops _ _ _ _ _ _ refl c.from_residual.ensures.1
 pub returns-in_err-strata : goal.returns-in_err-strata
 unfolding rows_by_strata
 returns-in_err-strata g c =
-    let is : c.as_slice-monos.result.now ≡ products c.args.body.now c.args.voc.now =
+    let is : c.as_slice-monos.result.now ≡ products c.args.body.formula.now c.args.voc.now =
     c.as_slice-monos.ensures ∙ c.in_ok-products.ensures ∙ (λ i. if has_products c.args.voc.now.rule then products_in (c.requires.movement.cases i) else []) in
-    error_first _ c.in_err-strata.ensures (ap (strata c.args.body.now) is) c.from_residual-in_err-strata.ensures.1
+    error_first _ c.in_err-strata.ensures (ap (strata c.args.body.formula.now) is) c.from_residual-in_err-strata.ensures.1
 
 pub returns : goal.returns
 unfolding rows_by_strata
 returns g c =
-    let is : c.as_slice-monos.result.now ≡ products c.args.body.now c.args.voc.now =
+    let is : c.as_slice-monos.result.now ≡ products c.args.body.formula.now c.args.voc.now =
     c.as_slice-monos.ensures ∙ c.in_ok-products.ensures ∙ (λ i. if has_products c.args.voc.now.rule then products_in (c.requires.movement.cases i) else []) in
-    value_first _ c.in_ok-strata.ensures (ap (strata c.args.body.now) is) c.rows_of.ensures
+    value_first _ c.in_ok-strata.ensures (ap (strata c.args.body.formula.now) is) c.rows_of.ensures

@@ -15,23 +15,23 @@ use Rattle.recurrence.proofs.turning.rows_of.Goals as goal
 
 pub equations-requires-clause-few : goal.equations-requires-clause-few
 equations-requires-clause-few g c =
-    let few = modified-few true c.args.body.now in let long = ap length (c.as_slice-modified.ensures ∙ c.requires.movement.modified) in let most = c.requires.starred.few in omega arith
+    let few = modified-few true c.args.body.formula.now in let long = ap length (c.as_slice-modified.ensures ∙ c.requires.movement.modified) in let most = c.requires.starred.few in omega arith
 
 pub equations-requires-clause-ascending : goal.equations-requires-clause-ascending
 equations-requires-clause-ascending g c =
     let us = c.as_slice-modified.ensures ∙ c.requires.movement.modified in
     let vs = c.as_slice-moving.ensures ∙ c.requires.movement.moving in
-    subst Ascend (sym (λ i. map (after_from 0 (us i)) (vs i))) (moving-ascends c.args.body.now)
+    subst Ascend (sym (λ i. map (after_from 0 (us i)) (vs i))) (moving-ascends c.args.body.formula.now)
 
 pub with_some_turn-requires : goal.with_some_turn-requires
 with_some_turn-requires g c =
-    let few = modified-few true c.args.body.now in let long = ap length (c.as_slice-modified.ensures ∙ c.requires.movement.modified) in let most = c.requires.starred.few in omega arith
+    let few = modified-few true c.args.body.formula.now in let long = ap length (c.as_slice-modified.ensures ∙ c.requires.movement.modified) in let most = c.requires.starred.few in omega arith
 
 pub bound_rows-requires-clause-modified : goal.bound_rows-requires-clause-modified
 bound_rows-requires-clause-modified g c =
     record {
       are = c.as_slice-modified.ensures ∙ c.requires.movement.modified;
-      few = let few = modified-few true c.args.body.now in let long = ap length (c.as_slice-modified.ensures ∙ c.requires.movement.modified) in let most = c.requires.starred.few in omega arith;
+      few = let few = modified-few true c.args.body.formula.now in let long = ap length (c.as_slice-modified.ensures ∙ c.requires.movement.modified) in let most = c.requires.starred.few in omega arith;
     }
 
 pub bound_rows-requires-clause-starred : goal.bound_rows-requires-clause-starred
@@ -48,7 +48,7 @@ returns-in_err-equations g c = stops _ _ _ _ _ _ c.in_err-equations.ensures.note
 
 pub returns-in_err-started : goal.returns-in_err-started
 returns-in_err-started g c =
-    let body = c.args.body.now in
+    let body = c.args.body.formula.now in
     let us : c.as_slice-modified.result.now ≡ modified_variables true body = c.as_slice-modified.ensures ∙ c.requires.movement.modified in
     let vs : c.as_slice-moving.result.now ≡ moving true body = c.as_slice-moving.ensures ∙ c.requires.movement.moving in
     let ts : c.as_slice.result.now ≡ terms_with_row (products body c.args.voc.now) c.args.strata.now = c.as_slice.ensures ∙ c.in_ok-terms.ensures ∙ ap (λ ms. terms_with_row ms c.args.strata.now) c.requires.products in
@@ -59,7 +59,7 @@ returns-in_err-started g c =
 
 pub returns-in_err-bounds : goal.returns-in_err-bounds
 returns-in_err-bounds g c =
-    let body = c.args.body.now in
+    let body = c.args.body.formula.now in
     let us : c.as_slice-modified.result.now ≡ modified_variables true body = c.as_slice-modified.ensures ∙ c.requires.movement.modified in
     let vs : c.as_slice-moving.result.now ≡ moving true body = c.as_slice-moving.ensures ∙ c.requires.movement.moving in
     let ts : c.as_slice.result.now ≡ terms_with_row (products body c.args.voc.now) c.args.strata.now = c.as_slice.ensures ∙ c.in_ok-terms.ensures ∙ ap (λ ms. terms_with_row ms c.args.strata.now) c.requires.products in
@@ -71,7 +71,7 @@ returns-in_err-bounds g c =
 
 pub returns : goal.returns
 returns g c =
-    let body = c.args.body.now in
+    let body = c.args.body.formula.now in
     let us : c.as_slice-modified.result.now ≡ modified_variables true body = c.as_slice-modified.ensures ∙ c.requires.movement.modified in
     let vs : c.as_slice-moving.result.now ≡ moving true body = c.as_slice-moving.ensures ∙ c.requires.movement.moving in
     let ts : c.as_slice.result.now ≡ terms_with_row (products body c.args.voc.now) c.args.strata.now = c.as_slice.ensures ∙ c.in_ok-terms.ensures ∙ ap (λ ms. terms_with_row ms c.args.strata.now) c.requires.products in

@@ -23,15 +23,15 @@ rows-first body voc =
 
 pub overflow_cast-aux : goal.overflow_cast-aux
 overflow_cast-aux g c =
-    let few = modified-few true c.args.body.now in let long = c.len.ensures ∙ ap length c.requires.movement.modified in let most = c.requires.starred.few in omega arith
+    let few = modified-few true c.args.body.formula.now in let long = c.len.ensures ∙ ap length c.requires.movement.modified in let most = c.requires.starred.few in omega arith
 
 pub overflow_add-aux : goal.overflow_add-aux
 overflow_add-aux g c =
-    let few = modified-few true c.args.body.now in let long = c.len.ensures ∙ ap length c.requires.movement.modified in let most = c.requires.starred.few in omega arith
+    let few = modified-few true c.args.body.formula.now in let long = c.len.ensures ∙ ap length c.requires.movement.modified in let most = c.requires.starred.few in omega arith
 
 pub noted_posts-requires : goal.noted_posts-requires
 noted_posts-requires g c =
-    let few = modified-few true c.args.body.now in
+    let few = modified-few true c.args.body.formula.now in
     let long = ap length c.requires.movement.modified in
     let most = c.requires.starred.few in
     record { few = omega arith; modified = c.requires.movement.modified; lost = c.requires.lost }
@@ -44,12 +44,12 @@ returns-in_err-post g c = stops _ _ _ _ _ _ c.in_err-post.ensures.noted c.from_r
 
 pub returns-in_err-rows : goal.returns-in_err-rows
 returns-in_err-rows g c =
-    in_other_words (rows-first c.args.body.now c.args.voc.now)
+    in_other_words (rows-first c.args.body.formula.now c.args.voc.now)
     (notes_first c.in_ok-post.ensures.noted refl (error_first _ c.in_err-rows.ensures refl c.from_residual-in_err-rows.ensures.1))
 
 pub returns : goal.returns
 returns g c =
     let long = c.len.ensures ∙ ap length c.requires.movement.modified in
-    in_other_words (rows-first c.args.body.now c.args.voc.now)
+    in_other_words (rows-first c.args.body.formula.now c.args.voc.now)
     (notes_first c.in_ok-post.ensures.noted refl
     (value_first _ c.in_ok-rows.ensures refl (at_end (λ i. record { aux = long i + 1; rows = c.in_ok-rows.rows; post = c.in_ok-post.ensures.exact i }))))
