@@ -28,7 +28,7 @@ use Rattle.simplex.specs.Answers.{IsWide}
 use Rattle.simplex.specs.Refusal.{LeavesBits}
 use Rattle.simplex.specs.Rows.{kinds_of}
 use Rattle.simplex.specs.SmallBasis.{HasFewRows, IsSmallWhereCalm}
-use Rattle.simplex.specs.Strata.{HasEndlessCase, IsFoundOver, HasCaseOfManyChoices, PivotsOver, IsStratumAnswer}
+use Rattle.simplex.specs.Strata.{HasEndlessCase, IsFoundOver, HasCaseOfManyChoices, PivotsOver, IsStratumStep, strata_test, IsStratumAnswer}
 use Rattle.simplex.specs.Suprema.{with_goal, IsSupremumOver}
 use Rattle.simplex.specs.declared.supremum.Supremum.TheVariants as supremum
 use Rattle.simplex.proofs.BasisLeaves.{stratum-leaves}
@@ -39,6 +39,7 @@ use Rattle.simplex.proofs.RowTableaux.{kinds-length}
 use Rattle.simplex.proofs.Leaves.{limit_of}
 use Rattle.simplex.proofs.Objectives.{more_rows}
 use Rattle.simplex.proofs.SpotPoints.{all_honest, spots_honest}
+use Rattle.simplex.proofs.Stops.{names_none}
 
 mapped_place : (cases : List Change) (l : ℕ) (case : Change) → slice_get cases l ≡ Some case → slice_get (map (λ (c : Change). c.rows) cases) l ≡ Some case.rows
 mapped_place [] l case e = cc
@@ -91,12 +92,13 @@ live_stratum asked (answer.Limit limit.Pivots) p wide live is = ⊎_elim (λ (de
     too_many : HasCaseOfManyChoices (2 ^ 127 - 1) asked → ⊥
     too_many m = let few : choice_count width (length m.case.rows + 1) ≤ 170141183460469231731687303715884105727 = few_at asked.cases m.place m.case live.few m.is in let many : (2 ^ 127 - 1) < choice_count width (length m.case.rows + 1) = m.many in omega (arith, few, many)
 
-pub wide_stratum : (asked : Changes) (step : Step.Wide) → IsCanonicalStratum asked.cases asked.lower → LeavesBits step → (IsCalm (Stratum asked) → ⊥) → IsStratumAnswer asked (answer.Limit (limit.Wide step.left step.right step.times))
-wide_stratum asked step k leaves wild = record {
+pub wide_stratum : (asked : Changes) (step : Step.Wide) → IsCanonicalStratum asked.cases asked.lower → LeavesBits step → (IsCalm (Stratum asked) → ⊥) → IsStratumStep asked step → IsStratumAnswer asked (answer.Limit (limit.Wide step.left step.right step.times))
+wide_stratum asked step k leaves wild is = record {
   passes = record { canonical = k; positive = tt; passed = ap (λ (b : Bool). bool_ok b) (limit_of step leaves) };
   pivots = λ e. no_pivots e;
-  wide = λ calm is. wild calm;
-  calm = λ live is. wild live.calm;
+  wide = λ calm w. wild calm;
+  calm = λ live l. wild live.calm;
+  step = is;
 }
   where
     no_pivots : answer.Limit (limit.Wide step.left step.right step.times) ≡ answer.Limit limit.Pivots → IsDead (Stratum asked) ⊎ HasCaseOfManyChoices (2 ^ 127 - 1) asked
@@ -104,7 +106,7 @@ wide_stratum asked step k leaves wild = record {
 
 pub untested_stratum : (asked : Changes) (a : Answer) (step : Step.Wide) → IsCanonicalStratum asked.cases asked.lower → All HasFewRows asked.cases → IsFoundOver (stratum_columns asked.cases asked.lower) (2 ^ 127 - 1) asked.cases asked.lower a → IsSmallWhereCalm asked a → outcome (Stratum asked) a ≡ Err step
     → IsStratumAnswer asked (answer.Limit (limit.Wide step.left step.right step.times))
-untested_stratum asked a step k few h s e = wide_stratum asked step k (stratum-leaves asked a step e) (λ calm. found_calm asked a step k calm few h (s.small calm) e)
+untested_stratum asked a step k few h s e = wide_stratum asked step k (stratum-leaves asked a step e) (λ calm. found_calm asked a step k calm few h (s.small calm) e) (strata_test a h e)
 
 -- no part of the test of what is found is false
 found_honest : (asked : Changes) (a : Answer) (b : Bool) → IsCanonicalStratum asked.cases asked.lower → IsFoundOver (stratum_columns asked.cases asked.lower) (2 ^ 127 - 1) asked.cases asked.lower a → outcome (Stratum asked) a ≡ Ok b → b ≡ true
@@ -144,6 +146,7 @@ found_stratum asked a b k p h e = record {
   pivots = pivots_of a h;
   wide = λ calm is. not_wide a h is;
   calm = λ live is. live_stratum asked a (pivots_of a h) (λ calm x. not_wide a h x) live is;
+  step = names_none (IsStratumStep asked) a (λ is. not_wide a h is);
 }
   where
     not_wide : (a : Answer) → IsFoundOver (stratum_columns asked.cases asked.lower) (2 ^ 127 - 1) asked.cases asked.lower a → IsWide a → ⊥

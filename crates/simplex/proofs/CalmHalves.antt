@@ -24,7 +24,9 @@ use Rattle.simplex.specs.Raise.{sign_of}
 use Rattle.simplex.specs.Refusal.{IsSmallFrame, IsRefusalIn}
 use Rattle.simplex.specs.Spots.{sums_of}
 use Rattle.simplex.specs.Strata.{IsAsked, IsCaseOf}
-use Rattle.simplex.specs.Suprema.{with_goal, frame_over, IsSupremumOver}
+use Rattle.simplex.specs.StrataSteps.{IsCandidate, case_step}
+use Rattle.simplex.specs.Suprema.{with_goal, frame_over, own_frame, IsSupremumOver}
+use Rattle.simplex.specs.Wider.{AreColumnsOf}
 use Rattle.simplex.specs.declared.differences.StrataQuestion.{StrataQuestion}
 use Rattle.simplex.specs.declared.stop.SearchStop.{SearchStop}
 use Rattle.simplex.specs.declared.stop.SearchStop.TheVariants.{Wide, Memory}
@@ -41,6 +43,7 @@ use Rattle.simplex.proofs.Small.{product_of-fits}
 use Rattle.simplex.proofs.SmallPoints.{more_room, corner_small, ray_sums}
 use Rattle.simplex.proofs.SmallSides.{value_below}
 use Rattle.simplex.proofs.SmallSums.{IsBelow, below_more, IsSmallTerm, multiples-below, sum-below}
+use Rattle.simplex.proofs.WiderColumns.{small_over_own}
 use Rattle.simplex.proofs.Tame.{own_small, IsSmallPoly, small_poly}
 
 -- ---- the numbers of a relation
@@ -106,10 +109,15 @@ frame_at s case numbers of r calm = at_place (λ (c : Change). IsCalmUpTo 104857
 half_small : (s : StrataQuestion) (case : Change) (numbers : List ℤ) (up : Bool) (p : Polynomial) → IsCaseOf s case → IsCalmRelation s numbers → IsDifferenceOf case.terms s.lower.now numbers up p → IsCalmAsked s → IsSmallFrame 1048576 (frame_over s.columns.now case.rows p) (length case.rows + 1)
 half_small s case numbers up p of r d calm = difference_small 1048576 s.columns.now s.lower.now numbers case up p d (frame_at s case numbers of r calm)
 
-pub half_refusal : {X : Type 0} (s : StrataQuestion) (case : Change) (numbers : List ℤ) (up : Bool) (p : Polynomial) (r : Result X SearchStop) → IsCaseOf s case → IsCalmRelation s numbers → IsDifferenceOf case.terms s.lower.now numbers up p → IfErr r (IsRefusalIn (frame_over s.columns.now case.rows p) (length case.rows + 1)) → IfErr r (IsRefusalOf s)
-half_refusal s case numbers up p (Ok x) of r d o = tt
-half_refusal s case numbers up p (Err (Wide step)) of r d o = record { leaves = o.leaves; great = λ calm. o.great 1048576 (omega arith) (half_small s case numbers up p of r d calm) }
-half_refusal s case numbers up p (Err Memory) of r d o = tt
+pub half_refusal : {X : Type 0} (s : StrataQuestion) (case : Change) (numbers : List ℤ) (up : Bool) (p : Polynomial) (r : Result X SearchStop) → AreColumnsOf s.columns.now case.rows p → IsCaseOf s case → IsCandidate s.columns.now s.cases.now s.lower.now numbers → IsCalmRelation s numbers → IsDifferenceOf case.terms s.lower.now numbers up p
+    → IfErr r (IsRefusalIn (own_frame case.rows p) (length case.rows + 1)) → IfErr r (IsRefusalOf s)
+half_refusal s case numbers up p (Ok x) a of candidate r d o = tt
+half_refusal s case numbers up p (Err (Wide step)) a of candidate r d o = record {
+  leaves = o.leaves;
+  great = λ calm. o.great 1048576 (omega arith) (small_over_own 1048576 case.rows p s.columns.now a (half_small s case numbers up p of r d calm));
+  is = case_step numbers up of.place case p candidate of.is d o.is;
+}
+half_refusal s case numbers up p (Err Memory) a of candidate r d o = tt
 
 -- the objective's own numbers are small
 objective_small : (s : StrataQuestion) (case : Change) (numbers : List ℤ) (up : Bool) (p : Polynomial) → IsAsked s → IsCaseOf s case → IsCalmRelation s numbers → IsDifferenceOf case.terms s.lower.now numbers up p → IsCalmAsked s → IsSmallPoly 1048576 s.columns.now p

@@ -22,7 +22,9 @@ use Rattle.simplex.specs.Points.{IsPointOf}
 use Rattle.simplex.specs.Exchange.{cause}
 use Rattle.simplex.specs.Refusal.{LeavesBits, IsRefusal}
 use Rattle.simplex.specs.Spots.{values_of, AreSideValues, common_denominator, numerators_over, frame_of_lines}
+use Rattle.simplex.specs.SearchSteps.{StopsBy, far_step}
 use Rattle.simplex.specs.Strata.{IsAsked, IsCaseOf}
+use Rattle.simplex.specs.StrataSteps.{IsSearchStep, place_step}
 use Rattle.simplex.specs.declared.differences.StrataQuestion.{StrataQuestion}
 use Rattle.simplex.specs.declared.stop.SearchStop.{SearchStop}
 use Rattle.simplex.specs.declared.stop.SearchStop.TheVariants.{Wide, Memory}
@@ -38,19 +40,19 @@ use Rattle.farkas_check.proofs.PointValues.{Stands-whole}
 
 -- ---- errors
 
-pub under_error : {X : Type 0} (s : StrataQuestion) (count : ℕ) (lines : List (List ℤ)) (r : Result X SearchStop) → IfErr r (IsRefusalUnder count lines) → (IsCalmAsked s → IsCalmUpTo 1048576 (frame_of_lines count lines)) → IfErr r (IsRefusalOf s)
-under_error s count lines (Ok x) h calm = tt
-under_error s count lines (Err (Wide step)) h calm = record { leaves = h.leaves; great = λ c. h.great (calm c) }
-under_error s count lines (Err Memory) h calm = tt
+pub under_error : {X : Type 0} (s : StrataQuestion) (count : ℕ) (lines : List (List ℤ)) (r : Result X SearchStop) → IfErr r (IsRefusalUnder count lines) → (IsCalmAsked s → IsCalmUpTo 1048576 (frame_of_lines count lines)) → IfErr r (StopsBy (IsSearchStep s.columns.now s.cases.now s.lower.now)) → IfErr r (IsRefusalOf s)
+under_error s count lines (Ok x) h calm is = tt
+under_error s count lines (Err (Wide step)) h calm is = record { leaves = h.leaves; great = λ c. h.great (calm c); is = is }
+under_error s count lines (Err Memory) h calm is = tt
 
-pub refusal_error : {X : Type 0} (s : StrataQuestion) (r : Result X SearchStop) → IfErr r IsRefusal → (IsCalmAsked s → IfErr r IsMemory) → IfErr r (IsRefusalOf s)
-refusal_error s (Ok x) h calm = tt
-refusal_error s (Err (Wide step)) h calm = record { leaves = h; great = calm }
-refusal_error s (Err Memory) h calm = tt
+pub refusal_error : {X : Type 0} (s : StrataQuestion) (r : Result X SearchStop) → IfErr r IsRefusal → (IsCalmAsked s → IfErr r IsMemory) → IfErr r (StopsBy (IsSearchStep s.columns.now s.cases.now s.lower.now)) → IfErr r (IsRefusalOf s)
+refusal_error s (Ok x) h calm is = tt
+refusal_error s (Err (Wide step)) h calm is = record { leaves = h; great = calm; is = is }
+refusal_error s (Err Memory) h calm is = tt
 
-pub step_error : {X : Type 0} (s : StrataQuestion) (r : Result X Step.Wide) → IfErr r LeavesBits → (IsCalmAsked s → IfErr r (λ _. ⊥)) → IfErr r (IsStray s)
-step_error s (Ok x) h calm = tt
-step_error s (Err step) h calm = record { leaves = h; great = calm }
+pub step_error : {X : Type 0} (s : StrataQuestion) (r : Result X Step.Wide) → IfErr r LeavesBits → (IsCalmAsked s → IfErr r (λ _. ⊥)) → IfErr r (IsSearchStep s.columns.now s.cases.now s.lower.now) → IfErr r (IsStray s)
+step_error s (Ok x) h calm is = tt
+step_error s (Err step) h calm is = record { leaves = h; great = calm; is = is }
 
 pub error_under : {X : Type 0} (count : ℕ) (lines : List (List ℤ)) (r : Result X SearchStop) → IfErr r IsRefusal → (IsCalmUpTo 1048576 (frame_of_lines count lines) → IfErr r IsMemory) → IfErr r (IsRefusalUnder count lines)
 error_under count lines (Ok x) h calm = tt
@@ -172,6 +174,6 @@ pub never_is : {X : Type 0} (r stated : Result X Step.Wide) → r ≡ stated →
 never_is {X = X} r stated e v = subst (λ (q : Result X Step.Wide). IfErr q (λ _. ⊥)) (sym e) (never stated v)
 
 -- a case past the last that is counted is none of a calm question
-pub far_error : {X : Type 0} (s : StrataQuestion) (place : ℕ) (r : Result X Step.Wide) → IfErr r (λ step. LeavesBits step × (2 ^ 32 ≤ place)) → place < length s.cases.now → IfErr r (IsStray s)
+pub far_error : {X : Type 0} (s : StrataQuestion) (place : ℕ) (r : Result X Step.Wide) → IfErr r (λ step. LeavesBits step × (2 ^ 32 ≤ place) × (step ≡ far_step)) → place < length s.cases.now → IfErr r (IsStray s)
 far_error s place (Ok x) h here = tt
-far_error s place (Err step) h here = record { leaves = h.0; great = λ calm. let few : length s.cases.now ≤ 4294967296 = calm.few_cases in let far : 2 ^ 32 ≤ place = h.1 in omega (arith, few, far, here) }
+far_error s place (Err step) h here = record { leaves = h.0; great = λ calm. let few : length s.cases.now ≤ 4294967296 = calm.few_cases in let far : 2 ^ 32 ≤ place = h.1 in omega (arith, few, far, here); is = let far : 2 ^ 32 ≤ place = h.1 in place_step (omega (arith, far, here)) h.2 }

@@ -23,11 +23,14 @@ use Rattle.farkas_check.specs.declared.answer.Limit.TheVariants as limit
 use Rattle.farkas_check.specs.declared.question.Goal.{Goal}
 use Rattle.farkas_check.specs.declared.question.Question.TheVariants.{Sup}
 use Rattle.farkas_check.proofs.Farkas.{bool_ok}
-use Rattle.simplex.specs.Goals.{whole_bound, higher, with_bound, bound_answer, IsReachOf, ReachAt, AreBoundsTo, HasNoBound, IsFoundAmong, IsRefusalAmong, IsSupremumAt, HasManyChoices, PivotsAmong, IsGoalsAnswer}
+use Rattle.simplex.specs.Goals.{whole_bound, higher, with_bound, bound_answer, IsReachOf, ReachAt, AreBoundsTo, HasNoBound, IsFoundAmong, IsRefusalAmong, IsSupremumAt, HasManyChoices, PivotsAmong, IsGoalsStep, goals_search, goals_number, goals_test, IsGoalsAnswer}
 use Rattle.simplex.specs.Answers.{IsWide}
 use Rattle.simplex.specs.Refusal.{LeavesBits, IsRefusalIn}
 use Rattle.simplex.specs.Rows.{kinds_of}
-use Rattle.simplex.specs.Suprema.{with_goal, goal_frame, IsSupremumOf}
+use Rattle.simplex.specs.SearchSteps.{far_step}
+use Rattle.simplex.specs.Suprema.{with_goal, goal_frame, own_frame, IsSupremumOf}
+use Rattle.simplex.proofs.Stops.{names_none}
+use Rattle.simplex.proofs.WiderColumns.{small_goal}
 use Rattle.simplex.specs.declared.goals.Bounds.{Bounds}
 use Rattle.simplex.specs.declared.goals.Reach.{Reach}
 use Rattle.simplex.specs.declared.stop.SearchStop.{SearchStop}
@@ -316,17 +319,24 @@ goals_calm goals budget (answer.Bound at certs case point) w k c h e =
 
 -- ---- stops
 
-pub refusal_among : {X : Type 0} (goals : List Goal) (place : ℕ) (goal : Goal) (r : Result X SearchStop) → slice_get goals place ≡ Some goal → IfErr r (IsRefusalIn (goal_frame goal) (length goal.rows + 1)) → IfErr r (IsRefusalAmong goals)
+pub refusal_among : {X : Type 0} (goals : List Goal) (place : ℕ) (goal : Goal) (r : Result X SearchStop) → slice_get goals place ≡ Some goal → IfErr r (IsRefusalIn (own_frame goal.rows goal.objective) (length goal.rows + 1)) → IfErr r (IsRefusalAmong goals)
 refusal_among goals place goal (Ok x) is h = tt
-refusal_among goals place goal (Err (Wide step)) is h = (h.leaves, λ c. h.great 1099511627776 fits_twice (goal_small goal (at_place IsCalmGoal goals place goal c.cases is)))
+refusal_among goals place goal (Err (Wide step)) is h = (h.leaves, λ c. h.great 1099511627776 fits_twice (small_goal 1099511627776 goal (goal_small goal (at_place IsCalmGoal goals place goal c.cases is))), goals_search place goal is h.is)
 refusal_among goals place goal (Err Memory) is h = tt
 
 pub supremum_at : (budget : ℕ) (goals : List Goal) (place : ℕ) (goal : Goal) (r : Result Supremum SearchStop) → slice_get goals place ≡ Some goal → IfOk r (λ found. IsSupremumOf goal budget found) → IfOk r (λ found. IsSupremumAt budget goals place found)
 supremum_at budget goals place goal (Ok found) is h = record { goal = goal; is = is; supremum = h }
 supremum_at budget goals place goal (Err stop) is h = tt
 
-pub too_many_cases : (goals : List Goal) (place : ℕ) → place < length goals → 4294967296 ≤ place → IsCalm (Sup goals) → ⊥
+too_many_cases : (goals : List Goal) (place : ℕ) → place < length goals → 4294967296 ≤ place → IsCalm (Sup goals) → ⊥
 too_many_cases goals place here far c = let f : length (case_rows (Sup goals)) ≤ 4294967296 = c.few_cases in let e : length (case_rows (Sup goals)) ≡ length goals = mapped-length goals in omega (arith, f, e, here, far)
+
+far_at : (goals : List Goal) (place : ℕ) (step : Step.Wide) → place < length goals → LeavesBits step × (2 ^ 32 ≤ place) × (step ≡ far_step) → IsRefusalAmong goals (Wide step)
+far_at goals place step here h = let far : 4294967296 ≤ place = h.1 in (h.0, λ c. too_many_cases goals place here far c, goals_number (omega (arith, far, here)) h.2)
+
+pub far_among : {X : Type 0} (goals : List Goal) (place : ℕ) (r : Result X Step.Wide) → place < length goals → IfErr r (λ step. LeavesBits step × (2 ^ 32 ≤ place) × (step ≡ far_step)) → IfErr r (λ step. IsRefusalAmong goals (Wide step))
+far_among goals place (Ok x) here h = tt
+far_among goals place (Err step) here h = far_at goals place step here h
 
 -- the answer on a live and calm question
 live_answer : (goals : List Goal) (a : Answer) → PivotsAmong (2 ^ 127 - 1) goals a → (IsCalm (Sup goals) → IsWide a → ⊥) → IsLiveAndCalm (Sup goals) → IsLimit a → ⊥
@@ -354,11 +364,11 @@ limit_passes goals step k leaves = record { canonical = k; positive = tt; passed
 no_pivots : (goals : List Goal) (step : Step.Wide) → PivotsAmong (2 ^ 127 - 1) goals (answer.Limit (limit.Wide step.left step.right step.times))
 no_pivots goals step e = cc
 
-pub wide_answer : (goals : List Goal) (step : Step.Wide) → All IsCanonicalGoal goals → LeavesBits step → (IsCalm (Sup goals) → ⊥) → IsGoalsAnswer goals (answer.Limit (limit.Wide step.left step.right step.times))
-wide_answer goals step k leaves wild = record { passes = limit_passes goals step k leaves; pivots = no_pivots goals step; wide = λ c is. wild c; calm = λ live is. wild live.calm }
+pub wide_answer : (goals : List Goal) (step : Step.Wide) → All IsCanonicalGoal goals → LeavesBits step → (IsCalm (Sup goals) → ⊥) → IsGoalsStep goals step → IsGoalsAnswer goals (answer.Limit (limit.Wide step.left step.right step.times))
+wide_answer goals step k leaves wild is = record { passes = limit_passes goals step k leaves; pivots = no_pivots goals step; wide = λ c w. wild c; calm = λ live l. wild live.calm; step = is }
 
 pub untested_answer : (goals : List Goal) (a : Answer) (step : Step.Wide) → All IsCanonicalGoal goals → IsFoundAmong (2 ^ 127 - 1) goals a → outcome (Sup goals) a ≡ Err step → IsGoalsAnswer goals (answer.Limit (limit.Wide step.left step.right step.times))
-untested_answer goals a step k h e = wide_answer goals step k (goals-leaves goals a step e) (λ c. goals_calm goals (2 ^ 127 - 1) a step k c h e)
+untested_answer goals a step k h e = wide_answer goals step k (goals-leaves goals a step e) (λ c. goals_calm goals (2 ^ 127 - 1) a step k c h e) (goals_test a h e)
 
 no_bound : (budget : ℕ) (goals : List Goal) → All IsCanonicalGoal goals → HasNoBound budget goals → IsDead (Sup goals) ⊎ HasManyChoices budget goals
 no_bound budget goals k h = ⊎_elim
@@ -374,6 +384,7 @@ found_goals goals a b k p h e = record {
   pivots = pivots_of a h;
   wide = λ c is. not_wide a h is;
   calm = λ live is. live_answer goals a (pivots_of a h) (λ c x. not_wide a h x) live is;
+  step = names_none (IsGoalsStep goals) a (λ is. not_wide a h is);
 }
   where
     pivots_of : (a : Answer) → IsFoundAmong (2 ^ 127 - 1) goals a → PivotsAmong (2 ^ 127 - 1) goals a

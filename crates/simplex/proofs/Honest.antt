@@ -17,12 +17,13 @@ use Rattle.farkas_check.specs.Kept.{HasPositive}
 use Rattle.farkas_check.specs.Tested.{outcome, Passes}
 use Rattle.farkas_check.specs.declared.question.Question.TheVariants.{Infeasible}
 use Rattle.farkas_check.proofs.Farkas.{bool_ok}
-use Rattle.simplex.specs.Answers.{AnswerOf, IsHonestOf, IsFoundFor, IsRefusalFor, IsRowsAnswer, PivotsOf, IsWide}
+use Rattle.simplex.specs.Answers.{AnswerOf, IsHonestOf, IsFoundFor, IsRefusalFor, IsRowsStep, rows_search, rows_test, IsRowsAnswer, PivotsOf, IsWide}
 use Rattle.simplex.specs.Refusal.{LeavesBits, IsRefusalIn}
 use Rattle.simplex.specs.declared.stop.SearchStop.TheVariants as stop
 use Rattle.simplex.proofs.RowTableaux.{kinds-length}
 use Rattle.simplex.proofs.Calmness.{small_frame}
 use Rattle.simplex.proofs.Tame.{fits_twice, calm_found, more_choices}
+use Rattle.simplex.proofs.Stops.{names_none}
 use Rattle.simplex.proofs.Leaves.{outcome-leaves, limit_of}
 use Rattle.simplex.specs.Exchange.{numbers_of}
 use Rattle.simplex.specs.Rows.{kinds_of, framed_tableau, frame_of_rows}
@@ -74,13 +75,13 @@ no_pivots : (rows : List Row) (step : Step.Wide) → PivotsOf (2 ^ 127 - 1) rows
 no_pivots rows step e = cc
 
 pub overrun_answer : (rows : List Row) (step : Step.Wide) → AreCanonical rows → IsRefusalFor rows (stop.Wide step) → IsRowsAnswer rows (answer.Limit (limit.Wide step.left step.right step.times))
-overrun_answer rows step k h = record { passes = limit_passes rows step k h.leaves; pivots = no_pivots rows step; wide = λ c is. wild c; calm = λ live is. wild live.calm }
+overrun_answer rows step k h = record { passes = limit_passes rows step k h.leaves; pivots = no_pivots rows step; wide = λ c is. wild c; calm = λ live is. wild live.calm; step = rows_search h.is }
   where
     wild : IsCalm (Infeasible rows) → ⊥
     wild c = h.great 1099511627776 fits_twice (small_frame 1099511627776 (columns rows []) rows c.cases.calm)
 
 pub step_answer : (rows : List Row) (a : Answer) (step : Step.Wide) → AreCanonical rows → IsFoundFor (2 ^ 127 - 1) rows a → outcome (Infeasible rows) a ≡ Err step → IsRowsAnswer rows (answer.Limit (limit.Wide step.left step.right step.times))
-step_answer rows a step k h e = record { passes = limit_passes rows step k (outcome-leaves rows a step e); pivots = no_pivots rows step; wide = λ c is. calm_found rows (2 ^ 127 - 1) a step k c.cases h e; calm = λ live is. calm_found rows (2 ^ 127 - 1) a step k live.calm.cases h e }
+step_answer rows a step k h e = record { passes = limit_passes rows step k (outcome-leaves rows a step e); pivots = no_pivots rows step; wide = λ c is. calm_found rows (2 ^ 127 - 1) a step k c.cases h e; calm = λ live is. calm_found rows (2 ^ 127 - 1) a step k live.calm.cases h e; step = rows_test a h e }
 
 pub found_answer : (rows : List Row) (a : Answer) (b : Bool) → AreCanonical rows → HasPositive a → IsFoundFor (2 ^ 127 - 1) rows a → outcome (Infeasible rows) a ≡ Ok b → IsRowsAnswer rows a
 found_answer rows a b k p h e = record {
@@ -88,6 +89,7 @@ found_answer rows a b k p h e = record {
   pivots = pivots_of rows a h;
   wide = λ c is. not_wide rows a h is;
   calm = calm_of rows a h;
+  step = names_none (IsRowsStep rows) a (λ is. not_wide rows a h is);
 }
   where
     pivots_of : (rows : List Row) (a : Answer) → IsFoundFor (2 ^ 127 - 1) rows a → PivotsOf (2 ^ 127 - 1) rows a

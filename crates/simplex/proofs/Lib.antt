@@ -46,6 +46,8 @@ pub mod CalmSearches
 pub mod CalmSteps
 pub mod CalmHalves
 pub mod CalmReads
+pub mod Stops
+pub mod StrataStops
 pub mod Overruns
 pub mod Primitive
 pub mod Bounds

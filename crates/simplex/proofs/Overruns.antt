@@ -9,25 +9,39 @@ use Rattle.simplex.specs.declared.raise.Turn.{Turn}
 use Rattle.simplex.specs.declared.raise.Turn.TheVariants as turn
 use Rattle.whole_numbers.specs.declared.wide.Wide as Step
 use Rattle.simplex.specs.Calm.{HasSquares, HasSmallLines, IsMemory}
-use Rattle.simplex.specs.Exchange.{IsTableauOf, ArePrimitive}
+use Rattle.items.specs.Gives.{Gives}
+use Rattle.simplex.specs.Exchange.{cause, exchange}
 use Rattle.simplex.specs.Raise.{Framed, enters_at, Improves, IsOpen}
 use Rattle.simplex.specs.Refusal.{LeavesBits, IsRefusal, IsOverrun, IsRefusalIn}
+use Rattle.simplex.specs.SearchSteps.{StopsBy, IsComparisonStep, IsTableauIn, IsFrameStep, comparison_step}
+use Rattle.simplex.proofs.Stops.{exchange_stops}
 use Rattle.simplex.specs.declared.stop.SearchStop.{SearchStop}
 use Rattle.simplex.specs.declared.stop.SearchStop.TheVariants.{Wide, Memory}
 use Rattle.simplex.specs.declared.tableau.Tableau.{Tableau}
 
-pub overrun : (over : Framed) (count : ℕ) (t : Tableau) (step : Step.Wide) → IsTableauOf over.units over.frame t → ArePrimitive t → length t.lines ≡ count → LeavesBits step → ((n : ℕ) → HasSquares n → HasSmallLines n t → ⊥) → IsOverrun over count step
-overrun over count t step tableau primitive many leaves never =
-    record { leaves = leaves; great = λ n room small. never n room (small t many tableau primitive) }
+overrun : (over : Framed) (count : ℕ) (t : Tableau) (step : Step.Wide) → IsTableauIn over count t → LeavesBits step → ((n : ℕ) → HasSquares n → HasSmallLines n t → ⊥) → IsFrameStep over count step → IsOverrun over count step
+overrun over count t step of leaves never is =
+    record { leaves = leaves; great = λ n room small. never n room (small t of.many of.tableau of.primitive); is = is }
 
-pub refused : {X : Type 0} (over : Framed) (count : ℕ) (t : Tableau) (r : Result X SearchStop) → IsTableauOf over.units over.frame t → ArePrimitive t → length t.lines ≡ count → IfErr r IsRefusal → ((n : ℕ) → HasSquares n → HasSmallLines n t → IfErr r IsMemory) → IfErr r (IsRefusalIn over count)
-refused over count t (Ok x) tableau primitive many leaves never = tt
-refused over count t (Err (Wide step)) tableau primitive many leaves never = overrun over count t step tableau primitive many leaves never
-refused over count t (Err Memory) tableau primitive many leaves never = tt
+module _ (over : Framed) (count : ℕ) (t : Tableau) (of : IsTableauIn over count t) where
+  pub refused : {X : Type 0} (r : Result X SearchStop) → IfErr r IsRefusal → ((n : ℕ) → HasSquares n → HasSmallLines n t → IfErr r IsMemory) → IfErr r (StopsBy (IsFrameStep over count)) → IfErr r (IsRefusalIn over count)
+  refused (Ok x) leaves never is = tt
+  refused (Err (Wide step)) leaves never is = overrun over count t step of leaves never is
+  refused (Err Memory) leaves never is = tt
 
-pub refused_step : {X : Type 0} (over : Framed) (count : ℕ) (t : Tableau) (r : Result X Step.Wide) → IsTableauOf over.units over.frame t → ArePrimitive t → length t.lines ≡ count → IfErr r LeavesBits → ((n : ℕ) → HasSquares n → HasSmallLines n t → IfErr r (λ _. ⊥)) → IfErr r (IsOverrun over count)
-refused_step over count t (Ok x) tableau primitive many leaves never = tt
-refused_step over count t (Err step) tableau primitive many leaves never = overrun over count t step tableau primitive many leaves never
+  refused_step : {X : Type 0} (r : Result X Step.Wide) → IfErr r LeavesBits → ((n : ℕ) → HasSquares n → HasSmallLines n t → IfErr r (λ _. ⊥)) → IfErr r (IsFrameStep over count) → IfErr r (IsOverrun over count)
+  refused_step (Ok x) leaves never is = tt
+  refused_step (Err step) leaves never is = overrun over count t step of leaves never is
+
+  pub refused_exchange : (line column : ℕ) (r : Result Tableau SearchStop) → Gives cause (λ u. u) r (exchange t line column) → IfErr r IsRefusal → ((n : ℕ) → HasSquares n → HasSmallLines n t → IfErr r IsMemory) → IfErr r (IsRefusalIn over count)
+  refused_exchange line column r g leaves never = refused r leaves never (exchange_stops over count t of line column r g)
+
+  pub refused_comparison : {X : Type 0} (constants column : ℕ) (keys : List ℕ) (r : Result X Step.Wide) → IfErr r LeavesBits → ((n : ℕ) → HasSquares n → HasSmallLines n t → IfErr r (λ _. ⊥)) → IfErr r (IsComparisonStep t constants column keys) → IfErr r (IsOverrun over count)
+  refused_comparison constants column keys r leaves never is = refused_step r leaves never (compared r is)
+    where
+      compared : {X : Type 0} (r : Result X Step.Wide) → IfErr r (IsComparisonStep t constants column keys) → IfErr r (IsFrameStep over count)
+      compared (Ok x) h = tt
+      compared (Err step) h = comparison_step t constants column keys of h
 
 -- ---- a turn of a raise
 

@@ -12,11 +12,10 @@ use Rattle.linear_terms.specs.declared.row.Row.{Row}
 use Rattle.linear_terms.specs.Mono.{mono_cmp}
 use Rattle.linear_terms.specs.Polynomial.{Terms, Polynomial, coefficient_in, IsCanonical}
 use Rattle.linear_terms.proofs.Canonical.{Before, first_before, first_some, IsCanonical-tail}
-use Rattle.farkas_check.specs.Columns.{columns, monos_of}
+use Rattle.farkas_check.specs.Columns.{columns}
 use Rattle.farkas_check.specs.Ratios.{Fraction}
 use Rattle.farkas_check.specs.declared.stratum.Change.{Change}
-use Rattle.farkas_check.proofs.Spreads.{itself, same_mono, is_among, is_among-right, AreAmong, rows_among, terms_among}
-use Rattle.farkas_check.proofs.Walks.{IsOrdered-columns}
+use Rattle.farkas_check.proofs.Spreads.{itself, same_mono, is_among, is_among-right, AreAmong}
 use Rattle.simplex.specs.Endings.{IsMetFor, StandsAt, FoundFor}
 use Rattle.simplex.specs.Differences.{IsDifferenceOf}
 use Rattle.simplex.specs.Raise.{Framed, sign_of}
@@ -24,7 +23,7 @@ use Rattle.simplex.specs.Refusal.{IsRefusalIn}
 use Rattle.simplex.specs.Rows.{kinds_of}
 use Rattle.simplex.specs.Search.{IsMet, IsCornerOf}
 use Rattle.simplex.specs.Strata.{IsAsked, IsCaseOf}
-use Rattle.simplex.specs.Suprema.{frame_over, IsSupremumOver}
+use Rattle.simplex.specs.Suprema.{frame_over, own_frame, IsSupremumOver}
 use Rattle.simplex.specs.Wider.{widened_numbers, unit_ray, widened_supremum, IsBesides, AreColumnsOf}
 use Rattle.simplex.specs.declared.differences.StrataQuestion.{StrataQuestion}
 use Rattle.simplex.specs.declared.gauss.Stage.{Stage}
@@ -37,7 +36,11 @@ use Rattle.simplex.proofs.Apart.{difference-among}
 use Rattle.simplex.proofs.Further.{case_given}
 use Rattle.simplex.proofs.SameCases.{left_stands}
 use Rattle.simplex.proofs.WiderCases.{HasCorner}
-use Rattle.simplex.proofs.WiderColumns.{refusal_over, empty_over, pivots_over, found_over, opened_over}
+use Rattle.simplex.proofs.WiderColumns.{columns_of_case, empty_over, pivots_over, found_over, opened_over}
+
+-- a stop of the search over the rows' own columns
+pub refused_own : {X : Type 0} (rows : List Row) (p : Polynomial) (own : List (List Col)) (r : Result X SearchStop) → own ≡ columns rows [] → IfErr r (IsRefusalIn (frame_over own rows p) (length rows + 1)) → IfErr r (IsRefusalIn (own_frame rows p) (length rows + 1))
+refused_own rows p own r is h = subst (λ (ds : List (List Col)). IfErr r (IsRefusalIn (frame_over ds rows p) (length rows + 1))) is h
 
 -- ---- a monomial that no row has
 
@@ -83,7 +86,7 @@ besides_at own ts i t k h e apart =
 -- ---- columns
 
 pub case_columns : (cs : List (List Col)) (rows : List Row) (p : Polynomial) → cs ≡ columns rows p.terms → AreColumnsOf cs rows p
-case_columns cs rows p e = subst (λ (ds : List (List Col)). AreColumnsOf ds rows p) (sym e) (record { ordered = IsOrdered-columns (monos_of rows p.terms); own = rows_among rows p.terms; objective = terms_among rows p.terms })
+case_columns cs rows p e = subst (λ (ds : List (List Col)). AreColumnsOf ds rows p) (sym e) (columns_of_case rows p)
 
 among-in : (m : List Col) (ms cs : List (List Col)) → AreAmong ms cs → is_among m ms ≡ true → is_among m cs ≡ true
 among-in m [] cs a h = cc
@@ -94,10 +97,6 @@ among-in m (x ∷ ms) cs a h = go (eq_by_cmp mono_cmp m x) refl h (λ k. among-i
     go false e k ih = ih k
 
 module _ (rows : List Row) (p : Polynomial) (cs own : List (List Col)) (a : AreColumnsOf cs rows p) (is : own ≡ columns rows []) where
-  pub refused_over : {X : Type 0} (r : Result X SearchStop) → IfErr r (IsRefusalIn (frame_over own rows p) (length rows + 1)) → IfErr r (IsRefusalIn (frame_over cs rows p) (length rows + 1))
-  refused_over (Ok x) h = tt
-  refused_over (Err stop) h = refusal_over rows p cs stop a (subst (λ (ds : List (List Col)). IsRefusalIn (frame_over ds rows p) (length rows + 1) stop) is h)
-
   pub refuted_over : (budget line : ℕ) (enters : List Bool) (t : Tableau) → FoundFor own rows p budget enters t (found.Refuted line) → IsSupremumOver cs rows p budget supremum.Empty
   refuted_over budget line enters t h = empty_over rows p budget cs a (subst (λ (ds : List (List Col)). IsSupremumOver ds rows p budget supremum.Empty) is (t, (line, h)))
 

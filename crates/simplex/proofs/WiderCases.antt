@@ -18,13 +18,11 @@ use Rattle.farkas_check.proofs.Walks.{IsBefore, reversed}
 use Rattle.simplex.specs.Endings.{IsMetFor}
 use Rattle.simplex.specs.Exchange.{numbers_of}
 use Rattle.simplex.specs.Raise.{Framed, sign_of}
-use Rattle.simplex.specs.Refusal.{IsSmallFrame, IsRefusalIn}
+use Rattle.simplex.specs.Refusal.{IsSmallFrame}
 use Rattle.simplex.specs.Rows.{kinds_of, whole_line, lines_from, framed_tableau}
 use Rattle.simplex.specs.Search.{IsMet, IsCornerOf}
 use Rattle.simplex.specs.Suprema.{with_goal, frame_over, IsRayOf, IsSupremumOver, SupremumAt}
 use Rattle.simplex.specs.Wider.{widened_numbers, widened_supremum}
-use Rattle.simplex.specs.declared.stop.SearchStop.{SearchStop}
-use Rattle.simplex.specs.declared.stop.SearchStop.TheVariants.{Wide, Memory}
 use Rattle.simplex.specs.declared.supremum.Supremum.{Supremum}
 use Rattle.simplex.specs.declared.supremum.Supremum.TheVariants as supremum
 use Rattle.simplex.specs.declared.tableau.Tableau.{Tableau}
@@ -302,10 +300,9 @@ module _ (rows : List Row) (p : Polynomial) where
       small_step m front ds c (subst (λ (es : List (List Col)). IsSmallFrame m (frame_over es rows p) (length rows + 1)) (append_assoc front (c ∷ []) ds)
       (small_all m New (front ++ c ∷ []) ds cs q (subst (λ (es : List (List Col)). IsSmallFrame m (frame_over es rows p) (length rows + 1)) (sym (append_assoc front (c ∷ []) cs)) h)))
 
--- a stop over a part of the columns
-pub refusal_wider : (New : List Col → Type 0) (rows : List Row) (p : Polynomial) (ds cs : List (List Col)) (stop : SearchStop) → Part New ds cs → IsRefusalIn (frame_over ds rows p) (length rows + 1) stop → IsRefusalIn (frame_over cs rows p) (length rows + 1) stop
-refusal_wider New rows p ds cs (Wide step) q r = record { leaves = r.leaves; great = λ n squares small. r.great n squares (small_all rows p n New [] ds cs q small) }
-refusal_wider New rows p ds cs Memory q r = tt
+-- a frame that is small is so over a part of its columns
+pub small_wider : (New : List Col → Type 0) (rows : List Row) (p : Polynomial) (n : ℕ) (ds cs : List (List Col)) → Part New ds cs → IsSmallFrame n (frame_over cs rows p) (length rows + 1) → IsSmallFrame n (frame_over ds rows p) (length rows + 1)
+small_wider New rows p n ds cs q small = small_all rows p n New [] ds cs q small
 
 -- ---- what is found, over wider columns
 

@@ -13,18 +13,19 @@ use Rattle.linear_terms.specs.Mono.{mono_cmp}
 use Rattle.linear_terms.specs.Polynomial.{Terms, Polynomial, coefficient_in}
 use Rattle.farkas_check.specs.Columns.{with_mono, in_print_order, monos_of, columns}
 use Rattle.farkas_check.specs.Ratios.{Fraction, whole}
-use Rattle.farkas_check.proofs.Spreads.{itself, same_mono, is_among, is_among-right, AreAmong, RowsAmong, rows_among}
+use Rattle.farkas_check.specs.Tested.{goal_columns}
+use Rattle.farkas_check.specs.declared.question.Goal.{Goal}
+use Rattle.farkas_check.proofs.Spreads.{itself, same_mono, is_among, is_among-right, AreAmong, RowsAmong, rows_among, terms_among}
 use Rattle.farkas_check.proofs.Walks.{IsBefore, IsOrdered, IsOrdered-columns}
 use Rattle.linear_terms.specs.MonoOrder.{mono_cmp_total}
 use Rattle.simplex.specs.Raise.{sign_of}
-use Rattle.simplex.specs.Refusal.{IsRefusalIn}
-use Rattle.simplex.specs.Suprema.{with_goal, frame_over, IsSupremumOver}
+use Rattle.simplex.specs.Refusal.{IsSmallFrame}
+use Rattle.simplex.specs.Suprema.{with_goal, frame_over, own_frame, goal_frame, IsSupremumOver}
 use Rattle.simplex.specs.Wider.{widened_numbers, unit_ray, widened_supremum, AreColumnsOf}
-use Rattle.simplex.specs.declared.stop.SearchStop.{SearchStop}
 use Rattle.simplex.specs.declared.supremum.Supremum.{Supremum}
 use Rattle.simplex.specs.declared.supremum.Supremum.TheVariants as supremum
 use Rattle.simplex.proofs.RowTableaux.{long}
-use Rattle.simplex.proofs.WiderCases.{HasNothing, HasCorner, Part, done, keep, besides, not_eq, widened-besides, widened-keep, corner_put, open_put, ray_step, put_all, refusal_wider, found_wider, empty_wider, pivots_wider}
+use Rattle.simplex.proofs.WiderCases.{HasNothing, HasCorner, Part, done, keep, besides, not_eq, widened-besides, widened-keep, corner_put, open_put, ray_step, put_all, small_wider, found_wider, empty_wider, pivots_wider}
 
 -- ---- monomials before others
 
@@ -136,8 +137,14 @@ own_part rows p cs a =
 
 -- ---- what is found
 
-pub refusal_over : (rows : List Row) (p : Polynomial) (cs : List (List Col)) (stop : SearchStop) → AreColumnsOf cs rows p → IsRefusalIn (frame_over (columns rows []) rows p) (length rows + 1) stop → IsRefusalIn (frame_over cs rows p) (length rows + 1) stop
-refusal_over rows p cs stop a r = refusal_wider (HasNothing rows) rows p (columns rows []) cs stop (own_part rows p cs a) r
+pub small_over_own : (n : ℕ) (rows : List Row) (p : Polynomial) (cs : List (List Col)) → AreColumnsOf cs rows p → IsSmallFrame n (frame_over cs rows p) (length rows + 1) → IsSmallFrame n (own_frame rows p) (length rows + 1)
+small_over_own n rows p cs a small = small_wider (HasNothing rows) rows p n (columns rows []) cs (own_part rows p cs a) small
+
+pub columns_of_case : (rows : List Row) (p : Polynomial) → AreColumnsOf (columns rows p.terms) rows p
+columns_of_case rows p = record { ordered = IsOrdered-columns (monos_of rows p.terms); own = rows_among rows p.terms; objective = terms_among rows p.terms }
+
+pub small_goal : (n : ℕ) (goal : Goal) → IsSmallFrame n (goal_frame goal) (length goal.rows + 1) → IsSmallFrame n (own_frame goal.rows goal.objective) (length goal.rows + 1)
+small_goal n goal small = small_over_own n goal.rows goal.objective (goal_columns goal) (columns_of_case goal.rows goal.objective) small
 
 pub empty_over : (rows : List Row) (p : Polynomial) (budget : ℕ) (cs : List (List Col)) → AreColumnsOf cs rows p → IsSupremumOver (columns rows []) rows p budget supremum.Empty → IsSupremumOver cs rows p budget supremum.Empty
 empty_over rows p budget cs a h = empty_wider rows p budget (columns rows []) cs (own_part rows p cs a) h

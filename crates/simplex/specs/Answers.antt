@@ -1,5 +1,5 @@
 -- What an answer owes before its test is made.
-use Rattle.std.specs.Prelude.{unsigned_abs, ◌≡◌, ℕ, ◌+◌, ◌-◌, ◌^◌, ◌<◌, ℤ, pos, ◌*ℤ◌, ◌<ℤ◌, List, [], drop, length, Bool, true, Result, Ok, ⊤}
+use Rattle.std.specs.Prelude.{unsigned_abs, ◌≡◌, ℕ, ◌+◌, ◌-◌, ◌^◌, ◌<◌, ℤ, pos, ◌*ℤ◌, ◌<ℤ◌, List, [], drop, length, Bool, true, Result, Ok, Err, ⊤}
 use Rattle.linear_terms.specs.declared.row.Row.{Row}
 use Rattle.whole_numbers.specs.declared.wide.Wide as Step
 use Rattle.farkas_check.specs.Calm.{IsCalm, IsLiveAndCalm}
@@ -19,6 +19,7 @@ use Rattle.farkas_check.specs.Frames.{choose}
 use Rattle.simplex.specs.Exchange.{numbers_of, upright_line}
 use Rattle.farkas_check.specs.Relations.{entry}
 use Rattle.simplex.specs.Refusal.{IsRefusalIn}
+use Rattle.simplex.specs.SearchSteps.{IsFrameStep}
 use Rattle.simplex.specs.Rows.{frame_of_rows, kinds_of}
 use Rattle.simplex.specs.declared.stop.SearchStop.{SearchStop}
 use Rattle.simplex.specs.declared.tableau.Tableau.{Tableau}
@@ -46,12 +47,16 @@ IsWide (answer.Bound at certs case point) = ⊥
 IsWide (answer.Unbounded case point ray) = ⊥
 IsWide (answer.Basis relations spots free) = ⊥
 
--- what the call for rows owes of its answer
-pub record IsRowsAnswer (rows : List Row) (a : Answer) : Type 0 where
-  pub passes : Passes (Infeasible rows) a
-  pub pivots : PivotsOf (2 ^ 127 - 1) rows a
-  pub wide : IsCalm (Infeasible rows) → IsWide a → ⊥
-  pub calm : IsLiveAndCalm (Infeasible rows) → IsLimit a → ⊥
+-- the step that a limit names, if it names one, is such a step
+abbrev pub NamesStep : (Step.Wide → Type 0) → Answer → Type 0
+NamesStep IsStep (answer.Limit (limit.Wide left right times)) =
+    IsStep (record { left = left; right = right; times = times })
+NamesStep IsStep (answer.Limit limit.Pivots) = ⊤
+NamesStep IsStep (answer.Yes by) = ⊤
+NamesStep IsStep (answer.No point) = ⊤
+NamesStep IsStep (answer.Bound at certs case point) = ⊤
+NamesStep IsStep (answer.Unbounded case point ray) = ⊤
+NamesStep IsStep (answer.Basis relations spots free) = ⊤
 
 -- a stop of the search over the frame of the rows
 abbrev pub IsRefusalFor : List Row → SearchStop → Type 0
@@ -88,3 +93,19 @@ AnswerOf over constants kinds budget (answer.Limit l) = (l ≡ limit.Pivots)
 abbrev pub IsFoundFor : ℕ → List Row → Answer → Type 0
 IsFoundFor budget rows a = AnswerOf (frame_of_rows (columns rows []) rows) (length (columns rows []))
     (kinds_of rows) budget a
+
+-- The step is one of the search over the frame of the rows, or of the test of what the search
+-- finds.
+pub data IsRowsStep (rows : List Row) (step : Step.Wide) : Type 0 where
+  rows_search : IsFrameStep (frame_of_rows (columns rows []) rows) (length rows) step
+      → IsRowsStep rows step
+  rows_test : (a : Answer) → IsFoundFor (2 ^ 127 - 1) rows a
+      → outcome (Infeasible rows) a ≡ Err step → IsRowsStep rows step
+
+-- what the call for rows owes of its answer
+pub record IsRowsAnswer (rows : List Row) (a : Answer) : Type 0 where
+  pub passes : Passes (Infeasible rows) a
+  pub pivots : PivotsOf (2 ^ 127 - 1) rows a
+  pub wide : IsCalm (Infeasible rows) → IsWide a → ⊥
+  pub calm : IsLiveAndCalm (Infeasible rows) → IsLimit a → ⊥
+  pub step : NamesStep (IsRowsStep rows) a

@@ -1,5 +1,5 @@
 -- A search for relations meets a step that leaves 128 bits only where its question is not calm.
-use Rattle.std.specs.Prelude.{ℕ, ℤ, ◌≤◌, unsigned_abs, List, [], ◌∷◌, ◌++◌, length, ⊤}
+use Rattle.std.specs.Prelude.{◌≡◌, ℕ, ℤ, ◌≤◌, unsigned_abs, List, [], ◌∷◌, ◌++◌, get_or, length, true, Err, ⊤}
 use Rattle.std.specs.List.{AllByRecursion}
 use Rattle.linear_terms.specs.declared.col.Col.{Col}
 use Rattle.linear_terms.specs.Polynomial.{Polynomial}
@@ -8,12 +8,18 @@ use Rattle.farkas_check.specs.Calm.{IsCalmStratum, difference_frame}
 use Rattle.farkas_check.specs.Frames.{IsCalmUpTo}
 use Rattle.farkas_check.specs.Ratios.{Fraction}
 use Rattle.farkas_check.specs.declared.stratum.Change.{Change}
+use Rattle.farkas_check.specs.Relations.{unknown_count}
+use Rattle.simplex.specs.Exchange.{exchange, numbers_of, choices_of}
 use Rattle.simplex.specs.Refusal.{LeavesBits}
-use Rattle.simplex.specs.Spots.{frame_of_lines, IsSpotLine}
+use Rattle.simplex.specs.SearchSteps.{IsSlopeStep}
+use Rattle.simplex.specs.Spots.{frame_of_lines, IsSpotLine, IsSpotTableau, multiples_from}
+use Rattle.simplex.specs.StrataSteps.{numerators_of, AreSpotsIn, IsSearchStep}
+use Rattle.simplex.specs.Suprema.{IsRayOf}
 use Rattle.simplex.specs.declared.differences.StrataQuestion.{StrataQuestion}
 use Rattle.simplex.specs.declared.spots.Spots.{Spots}
 use Rattle.simplex.specs.declared.stop.SearchStop.{SearchStop}
 use Rattle.simplex.specs.declared.stop.SearchStop.TheVariants.{Wide, Memory}
+use Rattle.simplex.specs.declared.tableau.Tableau.{Tableau}
 
 -- ---- spots
 
@@ -28,6 +34,23 @@ abbrev pub IsRefusalUnder : ℕ → List (List ℤ) → SearchStop → Type 0
 IsRefusalUnder count lines (Wide step) = IsStrayUnder count lines step
 IsRefusalUnder count lines Memory = ⊤
 
+-- The step is one of a search over the tableaux of the lines: it stops an exchange, or a number or
+-- the whole numbers of a relation that is read off.
+pub data IsLinesStep (count : ℕ) (lines : List (List ℤ)) (step : Step.Wide) : Type 0 where
+  lines_choice : (t : Tableau) (line column : ℕ) → IsSpotTableau count lines t
+      → exchange t line column ≡ Err step → IsLinesStep count lines step
+  lines_ratio : (t : Tableau) (unknown : ℕ) → IsSpotTableau count lines t
+      → IsSlopeStep t unknown true step → IsLinesStep count lines step
+  lines_relation : (t : Tableau) (unknown : ℕ) (ratios : List Fraction)
+      → IsSpotTableau count lines t → IsRayOf t unknown true count ratios
+      → numerators_of ratios ≡ Err step → IsLinesStep count lines step
+
+-- the step stops the multiples of the spots' differences for an unknown
+pub record IsUnitStep (count : ℕ) (spots : Spots) (step : Step.Wide) : Type 0 where
+  pub line : ℕ
+  pub is : multiples_from (get_or spots.tableau.lines line [])
+      (numbers_of spots.tableau line (choices_of spots.tableau line)) count spots.scales ≡ Err step
+
 -- the numbers by which spots' values were multiplied are small, where the frame of the lines is
 -- calm
 pub record HasSmallScales (count : ℕ) (spots : Spots) : Type 0 where
@@ -41,15 +64,21 @@ pub record IsCalmAsked (s : StrataQuestion) : Type 0 where
   pub few_cases : length s.cases.now ≤ 4294967296
   pub calm : IsCalmStratum s.columns.now s.cases.now s.lower.now
 
--- a step that leaves 128 bits, where the question is not calm
+-- a step of the search that leaves 128 bits, where the question is not calm
 pub record IsStray (s : StrataQuestion) (step : Step.Wide) : Type 0 where
   pub leaves : LeavesBits step
   pub great : IsCalmAsked s → ⊥
+  pub is : IsSearchStep s.columns.now s.cases.now s.lower.now step
 
--- the stop is a step that leaves 128 bits where the question is not calm, or want of memory
+-- the stop is such a step, or want of memory
 abbrev pub IsRefusalOf : StrataQuestion → SearchStop → Type 0
 IsRefusalOf s (Wide step) = IsStray s step
 IsRefusalOf s Memory = ⊤
+
+-- the spots are points of their cases, under the question's unknowns
+pub record AreSpotsOf (s : StrataQuestion) (spots : Spots) : Type 0 where
+  pub count : s.count ≡ unknown_count s.cases.now s.lower.now
+  pub are : AreSpotsIn s.columns.now s.cases.now s.lower.now spots.spots spots.lines spots.scales
 
 -- ---- relations
 

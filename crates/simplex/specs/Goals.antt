@@ -1,21 +1,23 @@
 -- What the cases of a question Sup come to, one after another, and what the answer owes.
-use Rattle.std.specs.Prelude.{◌≡◌, ◌⊎◌, ℕ, ◌+◌, ◌-◌, ◌^◌, ◌<◌, ℤ, ◌≤ℤ◌, List, [], ◌∷◌, ◌++◌, length, slice_get, Option, None, Some, int_lt, if◌then◌else◌, ⊤}
+use Rattle.std.specs.Prelude.{◌≡◌, ◌⊎◌, ℕ, ◌+◌, ◌-◌, ◌^◌, ◌<◌, ℤ, ◌≤ℤ◌, List, [], ◌∷◌, ◌++◌, length, slice_get, Option, None, Some, Err, int_lt, if◌then◌else◌, ⊤}
 use Rattle.std.specs.Int.{int_div_euclid}
 use Rattle.farkas_check.specs.Calm.{IsCalm, IsLiveAndCalm}
 use Rattle.farkas_check.specs.Meaning.{IsLimit}
 use Rattle.farkas_check.specs.Frames.{choice_count}
 use Rattle.farkas_check.specs.Ratios.{Fraction}
 use Rattle.farkas_check.specs.Sizes.{IsDead}
-use Rattle.farkas_check.specs.Tested.{goal_columns, Passes}
+use Rattle.whole_numbers.specs.declared.wide.Wide as Step
+use Rattle.farkas_check.specs.Tested.{goal_columns, outcome, Passes}
 use Rattle.farkas_check.specs.declared.answer.Answer.{Answer}
 use Rattle.farkas_check.specs.declared.answer.Answer.TheVariants as answer
 use Rattle.farkas_check.specs.declared.answer.Cert.{Cert}
 use Rattle.farkas_check.specs.declared.answer.Limit.TheVariants as limit
 use Rattle.farkas_check.specs.declared.question.Goal.{Goal}
 use Rattle.farkas_check.specs.declared.question.Question.TheVariants.{Sup}
-use Rattle.simplex.specs.Answers.{IsWide}
+use Rattle.simplex.specs.Answers.{IsWide, NamesStep}
 use Rattle.simplex.specs.Refusal.{LeavesBits}
-use Rattle.simplex.specs.Suprema.{IsSupremumOf}
+use Rattle.simplex.specs.SearchSteps.{IsFrameStep, far_step}
+use Rattle.simplex.specs.Suprema.{own_frame, IsSupremumOf}
 use Rattle.simplex.specs.declared.goals.Bounds.{Bounds}
 use Rattle.simplex.specs.declared.goals.Progress.{Progress}
 use Rattle.simplex.specs.declared.goals.Progress.TheVariants as progress
@@ -121,9 +123,20 @@ bound_answer bounds = of_reach bounds.reach
     of_reach None = answer.Limit limit.Pivots
     of_reach (Some r) = answer.Bound r.at bounds.certs r.case r.point
 
--- a step that leaves 128 bits, in a question that is not calm
+-- The step is one of the search over the frame of a case, the number of a case past 2 ^ 32, or a
+-- step of the test of what the search finds.
+pub data IsGoalsStep (goals : List Goal) (step : Step.Wide) : Type 0 where
+  goals_search : (place : ℕ) (goal : Goal) → slice_get goals place ≡ Some goal
+      → IsFrameStep (own_frame goal.rows goal.objective) (length goal.rows + 1) step
+      → IsGoalsStep goals step
+  goals_number : 2 ^ 32 < length goals → step ≡ far_step → IsGoalsStep goals step
+  goals_test : (a : Answer) → IsFoundAmong (2 ^ 127 - 1) goals a
+      → outcome (Sup goals) a ≡ Err step → IsGoalsStep goals step
+
+-- a step of the question that leaves 128 bits, where the question is not calm
 abbrev pub IsRefusalAmong : List Goal → SearchStop → Type 0
 IsRefusalAmong goals (Wide step) = LeavesBits step × (IsCalm (Sup goals) → ⊥)
+    × IsGoalsStep goals step
 IsRefusalAmong goals Memory = ⊤
 
 -- ---- what the answer owes
@@ -146,3 +159,4 @@ pub record IsGoalsAnswer (goals : List Goal) (a : Answer) : Type 0 where
   pub pivots : PivotsAmong (2 ^ 127 - 1) goals a
   pub wide : IsCalm (Sup goals) → IsWide a → ⊥
   pub calm : IsLiveAndCalm (Sup goals) → IsLimit a → ⊥
+  pub step : NamesStep (IsGoalsStep goals) a

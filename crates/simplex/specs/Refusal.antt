@@ -1,11 +1,13 @@
--- A step that leaves 128 bits: the sum or the product that it names is no number of 128 bits. It
--- comes only where some tableau of the frame has a number that is great.
+-- A step that leaves 128 bits: the sum or the product that it names is no number of 128 bits. It is
+-- a step of the search over the frame, and comes only where some tableau of the frame has a number
+-- that is great.
 use Rattle.std.specs.Prelude.{◌≡◌, false, ℕ, ◌+ℤ◌, ◌*ℤ◌, if◌then◌else◌, length, ⊤}
 use Rattle.whole_numbers.specs.Fits.{fits}
 use Rattle.whole_numbers.specs.declared.wide.Wide as Step
 use Rattle.simplex.specs.Calm.{HasSquares, HasSmallLines}
 use Rattle.simplex.specs.Exchange.{IsTableauOf, ArePrimitive}
 use Rattle.simplex.specs.Raise.{Framed}
+use Rattle.simplex.specs.SearchSteps.{IsFrameStep}
 use Rattle.simplex.specs.declared.stop.SearchStop.{SearchStop}
 use Rattle.simplex.specs.declared.stop.SearchStop.TheVariants.{Wide, Memory}
 use Rattle.simplex.specs.declared.tableau.Tableau.{Tableau}
@@ -26,13 +28,13 @@ abbrev pub IsSmallFrame : ℕ → Framed → ℕ → Type 0
 IsSmallFrame n over count = (t : Tableau) → length t.lines ≡ count
     → IsTableauOf over.units over.frame t → ArePrimitive t → HasSmallLines n t
 
--- a step that leaves 128 bits, in the search of a frame whose tableaux are not small
+-- a step of the search over the frame that leaves 128 bits, where its tableaux are not small
 pub record IsOverrun (over : Framed) (count : ℕ) (step : Step.Wide) : Type 0 where
   pub leaves : LeavesBits step
   pub great : (n : ℕ) → HasSquares n → IsSmallFrame n over count → ⊥
+  pub is : IsFrameStep over count step
 
--- the stop is a step that leaves 128 bits in the search of a frame whose tableaux are not small, or
--- want of memory
+-- the stop is such a step, or want of memory
 abbrev pub IsRefusalIn : Framed → ℕ → SearchStop → Type 0
 IsRefusalIn over count (Wide step) = IsOverrun over count step
 IsRefusalIn over count Memory = ⊤

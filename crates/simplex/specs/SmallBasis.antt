@@ -18,6 +18,7 @@ use Rattle.simplex.specs.Calm.{IsSmallLine}
 use Rattle.simplex.specs.CalmStrata.{IsCalmAsked}
 use Rattle.simplex.specs.Refusal.{LeavesBits}
 use Rattle.simplex.specs.Spots.{AreSpotLines, multiples_from}
+use Rattle.simplex.specs.StrataSteps.{IsSearchStep}
 use Rattle.simplex.specs.declared.differences.Bond.{Bond}
 use Rattle.simplex.specs.declared.differences.Bond.TheVariants as bond
 use Rattle.simplex.specs.declared.differences.DifferenceHalf.{DifferenceHalf}
@@ -104,9 +105,10 @@ pub record IsSmallWhereCalm (asked : Changes) (a : Answer) : Type 0 where
   pub small : IsCalm (Stratum asked)
       → IsSmallFound (stratum_columns asked.cases asked.lower) asked.cases asked.lower a
 
--- a step that leaves 128 bits, in a question that is not calm
+-- a step of the search that leaves 128 bits, where the question is not calm
 abbrev pub IsRefusalOver : Changes → SearchStop → Type 0
 IsRefusalOver asked (Wide step) = LeavesBits step × (IsCalm (Stratum asked) → ⊥)
+    × IsSearchStep (stratum_columns asked.cases asked.lower) asked.cases asked.lower step
 IsRefusalOver asked Memory = ⊤
 
 -- ---- what the steps of the search find, where the question is calm

@@ -1,5 +1,5 @@
 -- What the search of a stratum question comes to, and what its answer owes.
-use Rattle.std.specs.Prelude.{◌≡◌, ◌⊎◌, ℕ, ◌+◌, ◌*◌, ◌-◌, ◌^◌, ◌<◌, ◌≤◌, ℤ, pos, Bool, true, Ok, IsTrue, List, map, length, slice_get, Some}
+use Rattle.std.specs.Prelude.{◌≡◌, ◌⊎◌, ℕ, ◌+◌, ◌*◌, ◌-◌, ◌^◌, ◌<◌, ◌≤◌, ℤ, pos, Bool, true, Ok, Err, IsTrue, List, map, length, slice_get, Some}
 use Rattle.std.specs.List.{AllByRecursion, list_all}
 use Rattle.linear_terms.specs.declared.col.Col.{Col}
 use Rattle.linear_terms.specs.declared.row.Row.{Row}
@@ -13,7 +13,8 @@ use Rattle.farkas_check.specs.Sizes.{IsDead}
 use Rattle.farkas_check.specs.Points.{ratio_at, ratio_value}
 use Rattle.farkas_check.specs.Ratios.{Fraction}
 use Rattle.farkas_check.specs.Stratum.{has_unknowns, tested_relation, tested_free, spot_side}
-use Rattle.farkas_check.specs.Tested.{Passes}
+use Rattle.farkas_check.specs.Tested.{outcome, Passes}
+use Rattle.whole_numbers.specs.declared.wide.Wide as Step
 use Rattle.farkas_check.specs.declared.answer.Answer.{Answer}
 use Rattle.farkas_check.specs.declared.answer.Answer.TheVariants as answer
 use Rattle.farkas_check.specs.declared.answer.Limit.TheVariants as limit
@@ -21,10 +22,11 @@ use Rattle.farkas_check.specs.declared.question.Question.TheVariants.{Stratum}
 use Rattle.farkas_check.specs.declared.stratum.Change.{Change}
 use Rattle.farkas_check.specs.declared.stratum.Relation.{Relation}
 use Rattle.farkas_check.specs.declared.stratum.Spot.{Spot}
-use Rattle.simplex.specs.Answers.{IsWide}
+use Rattle.simplex.specs.Answers.{IsWide, NamesStep}
 use Rattle.simplex.specs.Points.{IsPointOf, IsSpotAt}
 use Rattle.simplex.specs.Relations.{HasCounts}
 use Rattle.simplex.specs.SmallBasis.{HasSmallTies}
+use Rattle.simplex.specs.StrataSteps.{IsSearchStep}
 use Rattle.simplex.specs.Suprema.{IsSupremumOver}
 use Rattle.simplex.specs.Ties.{IsHonestHalf, IsHonestTie, AreTies}
 use Rattle.simplex.specs.declared.differences.StrataQuestion.{StrataQuestion}
@@ -205,9 +207,18 @@ abbrev pub PivotsOver : ℕ → Changes → Answer → Type 0
 PivotsOver budget asked a = a ≡ answer.Limit limit.Pivots → IsDead (Stratum asked)
     ⊎ HasCaseOfManyChoices budget asked
 
+-- the step is one of the search for relations, or of the test of what the search finds
+pub data IsStratumStep (asked : Changes) (step : Step.Wide) : Type 0 where
+  strata_search : IsSearchStep (stratum_columns asked.cases asked.lower) asked.cases asked.lower
+      step → IsStratumStep asked step
+  strata_test : (a : Answer)
+      → IsFoundOver (stratum_columns asked.cases asked.lower) (2 ^ 127 - 1) asked.cases asked.lower
+      a → outcome (Stratum asked) a ≡ Err step → IsStratumStep asked step
+
 -- what the call for strata owes of its answer
 pub record IsStratumAnswer (asked : Changes) (a : Answer) : Type 0 where
   pub passes : Passes (Stratum asked) a
   pub pivots : PivotsOver (2 ^ 127 - 1) asked a
   pub wide : IsCalm (Stratum asked) → IsWide a → ⊥
   pub calm : IsLiveAndCalm (Stratum asked) → IsLimit a → ⊥
+  pub step : NamesStep (IsStratumStep asked) a

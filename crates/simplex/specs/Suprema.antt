@@ -12,6 +12,7 @@ use Rattle.farkas_check.specs.Frames.{choose}
 use Rattle.farkas_check.specs.Ratios.{Fraction, IsLowest, whole, lowest_terms}
 use Rattle.farkas_check.specs.Relations.{entry}
 use Rattle.farkas_check.specs.declared.answer.Cert.{Cert}
+use Rattle.farkas_check.specs.Columns.{columns}
 use Rattle.farkas_check.specs.Tested.{goal_columns}
 use Rattle.farkas_check.specs.declared.question.Goal.{Goal}
 use Rattle.simplex.specs.Exchange.{numbers_of, choices_of, line_multiple}
@@ -35,6 +36,10 @@ frame_over cs rows p = record {
   rows = length rows;
   frame = numbers_of (framed_tableau cs (with_goal rows p));
 }
+
+-- the frame over the rows' own columns, in which a search for a corner of them begins
+abbrev pub own_frame : List Row → Polynomial → Framed
+own_frame rows p = frame_over (columns rows []) rows p
 
 -- the frame of a goal's rows and its objective over its own columns
 abbrev pub goal_frame : Goal → Framed

@@ -7,7 +7,7 @@ ghost use Rattle.farkas_check.specs.Tested.{Passes};
 ghost use Rattle.farkas_check.specs.declared.answer.Answer.TheVariants as answer;
 ghost use Rattle.farkas_check.specs.declared.answer.Limit.TheVariants as limit;
 ghost use Rattle.farkas_check.specs.declared.question.Question.TheVariants as question;
-ghost use Rattle.simplex.specs.Answers.{IsWide, PivotsOf, IsRowsAnswer, IsFoundFor, IsRefusalFor, AnswerOf, multipliers_of};
+ghost use Rattle.simplex.specs.Answers.{IsWide, NamesStep, PivotsOf, IsRowsStep, IsRowsAnswer, IsFoundFor, IsRefusalFor, AnswerOf, multipliers_of};
 ghost use Rattle.simplex.specs.Calm.{HasSquares, IsSmallLine, IsMemory};
 ghost use Rattle.simplex.specs.Exchange.{cause};
 ghost use Rattle.simplex.specs.Raise.{Framed};
@@ -39,6 +39,7 @@ pub fn infeasible(alloc: Global, rows: &[Row]) -> Result<Answer, AllocError>
     ensures wide { IsCalm (question.Infeasible rows.now) → IfOk result (λ a. IsWide a → ⊥) }
     ensures pivots { IfOk result (λ a. PivotsOf (2 ^ 127 - 1) rows.now a) }
     ensures calm { IsLiveAndCalm (question.Infeasible rows.now) → IfOk result (λ a. IsLimit a → ⊥) }
+    ensures step { IfOk result (NamesStep (IsRowsStep rows.now)) }
 {
     truth_of_passing();
     let found = answer_of_rows(alloc, rows)?;

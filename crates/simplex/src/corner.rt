@@ -4,6 +4,7 @@ ghost use Rattle.farkas_check.specs.Relations.{entry};
 ghost use Rattle.simplex.specs.Raise.{Framed};
 ghost use Rattle.simplex.specs.Calm.{HasSquares, IsSmallLine, HasSmallLines, IsMemory};
 ghost use Rattle.simplex.specs.Refusal.{LeavesBits, IsRefusal};
+ghost use Rattle.simplex.specs.SearchSteps.{StopsBy, IsNumberStep, IsSlopeStep};
 ghost use Rattle.simplex.specs.Suprema.{SlopeAt, IsRayOf, chosen_slope};
 ghost use Rattle.simplex.specs.Search.{CornerAt, IsCornerOf, IsLineChoosing, chosen_number};
 
@@ -25,6 +26,7 @@ pub(crate) fn corner(
     requires units { constants < over.units }
     ensures corner { IfOk result (λ point. IsCornerOf t.now constants constants point) }
     ensures refusal { IfErr result IsRefusal }
+    ensures step { IfErr result (StopsBy (IsNumberStep t.now constants)) }
     ensures calm { (n : ℕ) → HasSquares n → HasSmallLines n t.now → IfErr result IsMemory }
 {
     let mut point = Items::new(alloc);
@@ -42,6 +44,7 @@ fn number_of(t: &Tableau, constants: usize, column: usize) -> Result<Ratio, Wide
     requires column { column < constants }
     ensures corner { IfOk result (λ r. CornerAt t.now constants column r) }
     ensures width { IfErr result LeavesBits }
+    ensures step { IfErr result (IsNumberStep t.now constants) }
     ensures calm { (n : ℕ) → HasSquares n → HasSmallLines n t.now → IfErr result (λ _. ⊥) }
 {
     match line_choosing(t.chosen.as_slice(), column) {
@@ -100,6 +103,7 @@ pub(crate) fn ray(
     requires column { column < over.units + length t.now.lines }
     ensures ray { IfOk result (λ ray. IsRayOf t.now column up constants ray) }
     ensures refusal { IfErr result IsRefusal }
+    ensures step { IfErr result (StopsBy (IsSlopeStep t.now column up)) }
     ensures calm { (n : ℕ) → HasSquares n → HasSmallLines n t.now → IfErr result IsMemory }
 {
     let mut made = Items::new(alloc);
@@ -117,6 +121,7 @@ fn slope_of(t: &Tableau, column: usize, up: bool, own: usize) -> Result<Ratio, W
     requires own { own < over.units }
     ensures ray { IfOk result (λ r. SlopeAt t.now column up own r) }
     ensures width { IfErr result LeavesBits }
+    ensures step { IfErr result (IsSlopeStep t.now column up) }
     ensures calm { (n : ℕ) → HasSquares n → HasSmallLines n t.now → IfErr result (λ _. ⊥) }
 {
     if own == column {

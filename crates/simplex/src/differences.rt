@@ -11,14 +11,16 @@ ghost use Rattle.simplex.specs.Exchange.{line_multiple};
 ghost use Rattle.simplex.specs.Points.{IsPointOf};
 ghost use Rattle.simplex.specs.Raise.{sign_of};
 ghost use Rattle.simplex.specs.Refusal.{IsRefusal};
+ghost use Rattle.simplex.specs.SearchSteps.{StopsAt};
 ghost use Rattle.simplex.specs.SmallBasis.{HasSmallMultipliers, HasSmallHalf, HasSmallBond};
 ghost use Rattle.simplex.specs.Spots.{IsApart, sums_of};
+ghost use Rattle.simplex.specs.StrataSteps.{point_beyond, StopsSum, IsCandidate};
 ghost use Rattle.simplex.specs.Strata.{IsAsked, IsCaseOf, IsFurther, HalfAt, BondAt};
 ghost use Rattle.simplex.specs.Suprema.{IsSupremumOver};
 ghost use Rattle.simplex.specs.Ties.{IsHonestHalf};
 ghost use Rattle.simplex.specs.declared.differences.StrataQuestion.{StrataQuestion};
 
-use crate::next_supremum::supremum_from;
+use crate::next_supremum::{GoalOver, supremum_from};
 use crate::supremum::Supremum;
 use crate::tableau::line_multiple;
 use crate::values::{sums_of, value_at};
@@ -71,6 +73,7 @@ fn sign_of(up: bool) -> i128
 fn with_multiple(alloc: Global, total: &Poly, number: i128, poly: &Poly) -> Result<Poly, SearchStop>
     ensures exact { IfOk result (λ p. with_multiple total.now number poly.now ≡ Ok p) }
     ensures refusal { IfErr result IsRefusal }
+    ensures step { IfErr result (StopsSum (with_multiple total.now number poly.now)) }
     ensures calm { (p : Polynomial) → with_multiple total.now number poly.now ≡ Ok p
         → IfErr result IsMemory }
 {
@@ -87,6 +90,7 @@ fn with_multiples(
 ) -> Result<Poly, SearchStop>
     ensures exact { IfOk result (λ p. with_multiples first numbers.now polys.now ≡ Ok p) }
     ensures refusal { IfErr result IsRefusal }
+    ensures step { IfErr result (StopsSum (with_multiples first numbers.now polys.now)) }
     ensures calm { (p : Polynomial) → with_multiples first numbers.now polys.now ≡ Ok p
         → IfErr result IsMemory }
 {
@@ -107,6 +111,7 @@ fn with_multiples(
 fn with_rest(alloc: Global, poly: Poly, number: &i128) -> Result<Poly, SearchStop>
     ensures exact { IfOk result (λ p. sum_of_polys poly (constant_of number.now) ≡ Ok p) }
     ensures refusal { IfErr result IsRefusal }
+    ensures step { IfErr result (StopsSum (sum_of_polys poly (constant_of number.now))) }
     ensures calm { (p : Polynomial) → sum_of_polys poly (constant_of number.now) ≡ Ok p
         → IfErr result IsMemory }
 {
@@ -128,6 +133,8 @@ fn difference_in(
     requires numbers { length numbers.now ≡ strata.now.count }
     requires few { strata.now.count < 2 ^ 61 }
     requires calm { IsCalmRelation strata.now numbers.now }
+    requires candidate { IsCandidate strata.now.columns.now strata.now.cases.now
+        strata.now.lower.now numbers.now }
     ensures difference { IfOk result
         (IsDifferenceOf case.now.terms strata.now.lower.now numbers.now up) }
     ensures refusal { IfErr result (IsRefusalOf strata.now) }
@@ -162,6 +169,8 @@ fn difference_with(
     requires numbers { length numbers.now ≡ strata.now.count }
     requires few { strata.now.count < 2 ^ 61 }
     requires calm { IsCalmRelation strata.now numbers.now }
+    requires candidate { IsCandidate strata.now.columns.now strata.now.cases.now
+        strata.now.lower.now numbers.now }
     requires own { line_multiple (take strata.now.terms numbers.now) (sign_of up) ≡ Ok own.now }
     requires others { line_multiple (drop strata.now.terms numbers.now) (sign_of (not up))
         ≡ Ok others.now }
@@ -189,6 +198,7 @@ fn point_apart(
 ) -> Result<Items<Ratio>, SearchStop>
     ensures point { IfOk result (IsFurther columns.now objective.now point ray) }
     ensures refusal { IfErr result IsRefusal }
+    ensures step { IfErr result (StopsAt (point_beyond columns.now objective.now point ray)) }
     ensures calm { (v : Fraction) (zs : List Fraction)
         → ratio_value (ratio_at columns.now point) objective.now ≡ Ok v → sums_of point ray ≡ Ok zs
         → IfErr result IsMemory }
@@ -216,20 +226,20 @@ fn half_of(
     requires numbers { length numbers.now ≡ strata.now.count }
     requires few { strata.now.count < 2 ^ 61 }
     requires calm { IsCalmRelation strata.now numbers.now }
+    requires candidate { IsCandidate strata.now.columns.now strata.now.cases.now
+        strata.now.lower.now numbers.now }
     ensures half { IfOk result (HalfAt strata.now numbers.now case.now up) }
     ensures small { IfOk result (HasSmallHalf strata.now) }
     ensures refusal { IfErr result (IsRefusalOf strata.now) }
 {
     let objective = difference_in(alloc, strata, case, numbers, up)?;
     let last = endings.take(place);
-    let (found, ending) = supremum_from(
-        alloc,
-        strata.columns,
-        case.rows.as_slice(),
-        &objective,
-        strata.budget,
-        last,
-    )?;
+    let goal = GoalOver {
+        columns: strata.columns,
+        rows: case.rows.as_slice(),
+        objective: &objective,
+    };
+    let (found, ending) = supremum_from(alloc, goal, strata.budget, last)?;
     endings.note(place, ending)?;
     half_at(alloc, strata, case, numbers, up, &objective, found)
 }
@@ -247,6 +257,8 @@ fn half_at(
     requires asked { IsAsked strata.now }
     requires case { IsCaseOf strata.now case.now }
     requires calm { IsCalmRelation strata.now numbers.now }
+    requires candidate { IsCandidate strata.now.columns.now strata.now.cases.now
+        strata.now.lower.now numbers.now }
     requires difference { IsDifferenceOf case.now.terms strata.now.lower.now numbers.now up
         objective.now }
     requires came { IsSupremumOver strata.now.columns.now case.now.rows objective.now
@@ -300,6 +312,8 @@ pub(crate) fn bond_of(
     requires numbers { length numbers.now ≡ strata.now.count }
     requires few { strata.now.count < 2 ^ 61 }
     requires calm { IsCalmRelation strata.now numbers.now }
+    requires candidate { IsCandidate strata.now.columns.now strata.now.cases.now
+        strata.now.lower.now numbers.now }
     ensures bond { IfOk result (BondAt strata.now numbers.now case.now) }
     ensures small { IfOk result (HasSmallBond strata.now) }
     ensures refusal { IfErr result (IsRefusalOf strata.now) }
@@ -326,6 +340,8 @@ fn bond_with(
     requires numbers { length numbers.now ≡ strata.now.count }
     requires few { strata.now.count < 2 ^ 61 }
     requires calm { IsCalmRelation strata.now numbers.now }
+    requires candidate { IsCandidate strata.now.columns.now strata.now.cases.now
+        strata.now.lower.now numbers.now }
     requires up { IsHonestHalf strata.now.columns.now strata.now.lower.now numbers.now case.now true
         up }
     requires small { HasSmallMultipliers strata.now up }

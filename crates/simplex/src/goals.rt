@@ -4,9 +4,10 @@ ghost use Rattle.farkas_check.specs.Kept.{IsCanonicalGoal};
 ghost use Rattle.farkas_check.specs.Meaning.{IsLimit, IsTight};
 ghost use Rattle.farkas_check.specs.Tested.{Passes};
 ghost use Rattle.farkas_check.specs.declared.question.Question.TheVariants as question;
-ghost use Rattle.simplex.specs.Goals.{whole_bound, higher, with_bound, bound_answer, AreBoundsTo, ProgressAt, IsFoundAmong, IsRefusalAmong, IsSupremumAt, IsGoalsAnswer, PivotsAmong};
-ghost use Rattle.simplex.specs.Answers.{IsWide};
+ghost use Rattle.simplex.specs.Goals.{whole_bound, higher, with_bound, bound_answer, AreBoundsTo, ProgressAt, IsFoundAmong, IsRefusalAmong, IsSupremumAt, IsGoalsStep, IsGoalsAnswer, PivotsAmong};
+ghost use Rattle.simplex.specs.Answers.{IsWide, NamesStep};
 ghost use Rattle.simplex.specs.Refusal.{LeavesBits};
+ghost use Rattle.simplex.specs.SearchSteps.{far_step};
 ghost use Rattle.simplex.specs.declared.stop.SearchStop.TheVariants as stop;
 
 use crate::answering::limit_of;
@@ -54,6 +55,7 @@ pub fn sup(alloc: Global, goals: &[Goal]) -> Result<Answer, AllocError>
     ensures wide { IsCalm (question.Sup goals.now) → IfOk result (λ a. IsWide a → ⊥) }
     ensures pivots { IfOk result (λ a. PivotsAmong (2 ^ 127 - 1) goals.now a) }
     ensures calm { IsLiveAndCalm (question.Sup goals.now) → IfOk result (λ a. IsLimit a → ⊥) }
+    ensures step { IfOk result (NamesStep (IsGoalsStep goals.now)) }
 {
     let mut endings = Endings::new(alloc);
     sup_with(alloc, goals, &mut endings)
@@ -66,6 +68,7 @@ pub fn sup_with(alloc: Global, goals: &[Goal], endings: &mut Endings) -> Result<
     ensures wide { IsCalm (question.Sup goals.now) → IfOk result (λ a. IsWide a → ⊥) }
     ensures pivots { IfOk result (λ a. PivotsAmong (2 ^ 127 - 1) goals.now a) }
     ensures calm { IsLiveAndCalm (question.Sup goals.now) → IfOk result (λ a. IsLimit a → ⊥) }
+    ensures step { IfOk result (NamesStep (IsGoalsStep goals.now)) }
 {
     truth_of_passing();
     let found = answer_of_goals(alloc, goals, endings)?;
@@ -223,7 +226,8 @@ fn case_supremum(
 /// The place of a case in 32 bits. There are no more cases in a calm question.
 pub(crate) fn case_number(place: usize) -> Result<u32, Wide>
     ensures number { IfOk result (λ case. case ≡ place) }
-    ensures far { IfErr result (λ step. LeavesBits step × (2 ^ 32 ≤ place)) }
+    ensures far { IfErr result
+        (λ step. LeavesBits step × (2 ^ 32 ≤ place) × (step ≡ far_step)) }
 {
     match u32::try_from(place) {
         Ok(case) => Ok(case),

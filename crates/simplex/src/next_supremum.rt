@@ -9,7 +9,7 @@ ghost use Rattle.simplex.specs.Raise.{Framed};
 ghost use Rattle.simplex.specs.Refusal.{IsRefusalIn};
 ghost use Rattle.simplex.specs.Rows.{kinds_of};
 ghost use Rattle.simplex.specs.Search.{IsMet};
-ghost use Rattle.simplex.specs.Suprema.{frame_over, goal_frame, IsSupremumOver, IsSupremumOf, SupremumAt};
+ghost use Rattle.simplex.specs.Suprema.{frame_over, own_frame, IsSupremumOver, IsSupremumOf, SupremumAt};
 
 use crate::corner::corner;
 use crate::endings::Ending;
@@ -25,6 +25,14 @@ use items::Items;
 use linear_terms::{Kind, Mono, Poly, Row};
 use std::alloc::{AllocError, Global};
 
+/// Rows and an objective over columns, among which are theirs.
+#[derive(Clone, Copy)]
+pub(crate) struct GoalOver<'a> {
+    pub(crate) columns: &'a [Mono],
+    pub(crate) rows: &'a [Row],
+    pub(crate) objective: &'a Poly,
+}
+
 /// What a case of a supremum question comes to, with no more turns a raise than the budget, and
 /// where it ended. It begins where the last one ended, if that was over the same rows, and else at
 /// the frame of the rows.
@@ -35,47 +43,55 @@ pub(crate) fn next_supremum(
     last: Option<Ending>,
 ) -> Result<(Supremum, Option<Ending>), SearchStop>
     ensures supremum { IfOk result (λ r. IsSupremumOf goal.now budget r.0) }
-    ensures refusal { IfErr result (IsRefusalIn (goal_frame goal.now) (length goal.now.rows + 1)) }
+    ensures refusal { IfErr result
+        (IsRefusalIn (own_frame goal.now.rows goal.now.objective) (length goal.now.rows + 1)) }
 {
     let rows = goal.rows.as_slice();
     let objective = &goal.objective;
     match corner_for(alloc, last, rows, objective)? {
         Some((own, copies, stage)) => {
             let columns = columns_with(alloc, own.as_slice(), rows, objective.terms())?;
-            let columns = columns.as_slice();
-            supremum_at(alloc, columns, own, copies, stage, rows, objective, budget)
+            let goal = GoalOver {
+                columns: columns.as_slice(),
+                rows,
+                objective,
+            };
+            supremum_at(alloc, goal, own, copies, stage, budget)
         }
         None => {
             let own = case_columns(alloc, rows, &[])?;
             let columns = columns_with(alloc, own.as_slice(), rows, objective.terms())?;
-            supremum_anew(alloc, columns.as_slice(), own, rows, objective, budget)
+            let goal = GoalOver {
+                columns: columns.as_slice(),
+                rows,
+                objective,
+            };
+            supremum_anew(alloc, goal, own, budget)
         }
     }
 }
 
-/// The same of rows and an objective over columns, among which are theirs. The search is over the
-/// rows' own columns, and what it comes to has 0 at the others.
+/// The same of a goal over columns. The search is over the rows' own columns, and what it comes to
+/// has 0 at the others.
 pub(crate) fn supremum_from(
     alloc: Global,
-    columns: &[Mono],
-    rows: &[Row],
-    objective: &Poly,
+    goal: GoalOver<'_>,
     budget: u128,
     last: Option<Ending>,
 ) -> Result<(Supremum, Option<Ending>), SearchStop>
-    requires { AreColumnsOf columns.now rows.now objective.now }
+    requires { AreColumnsOf goal.columns.now goal.rows.now goal.objective.now }
     ensures supremum { IfOk result
-        (λ r. IsSupremumOver columns.now rows.now objective.now budget r.0) }
+        (λ r. IsSupremumOver goal.entry.columns.now goal.entry.rows.now goal.entry.objective.now
+        budget r.0) }
     ensures refusal { IfErr result
-        (IsRefusalIn (frame_over columns.now rows.now objective.now) (length rows.now + 1)) }
+        (IsRefusalIn (own_frame goal.entry.rows.now goal.entry.objective.now)
+        (length goal.entry.rows.now + 1)) }
 {
-    match corner_for(alloc, last, rows, objective)? {
-        Some((own, copies, stage)) => {
-            supremum_at(alloc, columns, own, copies, stage, rows, objective, budget)
-        }
+    match corner_for(alloc, last, goal.rows, goal.objective)? {
+        Some((own, copies, stage)) => supremum_at(alloc, goal, own, copies, stage, budget),
         None => {
-            let own = case_columns(alloc, rows, &[])?;
-            supremum_anew(alloc, columns, own, rows, objective, budget)
+            let own = case_columns(alloc, goal.rows, &[])?;
+            supremum_anew(alloc, goal, own, budget)
         }
     }
 }
@@ -135,26 +151,26 @@ fn are_rows(own: &[Row], rows: &[Row]) -> bool
 /// The supremum from the frame of the rows on.
 fn supremum_anew(
     alloc: Global,
-    columns: &[Mono],
+    goal: GoalOver<'_>,
     own: Items<Mono>,
-    rows: &[Row],
-    objective: &Poly,
     budget: u128,
 ) -> Result<(Supremum, Option<Ending>), SearchStop>
-    requires columns { AreColumnsOf columns.now rows.now objective.now }
-    requires own { own ≡ columns_of rows.now [] }
+    requires columns { AreColumnsOf goal.columns.now goal.rows.now goal.objective.now }
+    requires own { own ≡ columns_of goal.rows.now [] }
     ensures supremum { IfOk result
-        (λ r. IsSupremumOver columns.now rows.now objective.now budget r.0) }
+        (λ r. IsSupremumOver goal.entry.columns.now goal.entry.rows.now goal.entry.objective.now
+        budget r.0) }
     ensures refusal { IfErr result
-        (IsRefusalIn (frame_over columns.now rows.now objective.now) (length rows.now + 1)) }
+        (IsRefusalIn (own_frame goal.entry.rows.now goal.entry.objective.now)
+        (length goal.entry.rows.now + 1)) }
 {
-    let (stage, found) = searched_case(alloc, &own, rows, objective, budget)?;
+    let (stage, found) = searched_case(alloc, &own, goal.rows, goal.objective, budget)?;
     match found {
         SearchEnd::Refuted(_line) => Ok((Supremum::Empty, None)),
         SearchEnd::Pivots => Ok((Supremum::Pivots, None)),
         SearchEnd::Corner => {
-            let copies = copies_of(alloc, rows)?;
-            supremum_at(alloc, columns, own, copies, stage, rows, objective, budget)
+            let copies = copies_of(alloc, goal.rows)?;
+            supremum_at(alloc, goal, own, copies, stage, budget)
         }
     }
 }
@@ -163,33 +179,31 @@ fn supremum_anew(
 /// without end.
 fn supremum_at(
     alloc: Global,
-    columns: &[Mono],
+    goal: GoalOver<'_>,
     own: Items<Mono>,
     copies: Items<Row>,
     stage: Stage,
-    rows: &[Row],
-    objective: &Poly,
     budget: u128,
 ) -> Result<(Supremum, Option<Ending>), SearchStop>
-    requires columns { AreColumnsOf columns.now rows.now objective.now }
-    requires own { own ≡ columns_of rows.now [] }
-    requires rows { copies ≡ rows.now }
-    requires met { IsMetFor own rows.now objective.now stage.enters stage.tableau }
+    requires columns { AreColumnsOf goal.columns.now goal.rows.now goal.objective.now }
+    requires own { own ≡ columns_of goal.rows.now [] }
+    requires rows { copies ≡ goal.rows.now }
+    requires met { IsMetFor own goal.rows.now goal.objective.now stage.enters stage.tableau }
     ensures supremum { IfOk result
-        (λ r. IsSupremumOver columns.now rows.now objective.now budget r.0) }
+        (λ r. IsSupremumOver goal.entry.columns.now goal.entry.rows.now goal.entry.objective.now
+        budget r.0) }
     ensures refusal { IfErr result
-        (IsRefusalIn (frame_over columns.now rows.now objective.now) (length rows.now + 1)) }
+        (IsRefusalIn (own_frame goal.entry.rows.now goal.entry.objective.now)
+        (length goal.entry.rows.now + 1)) }
 {
-    match first_besides(own.as_slice(), objective.terms()) {
+    match first_besides(own.as_slice(), goal.objective.terms()) {
         Some((mono, up)) => {
-            let found = ray_supremum(alloc, columns, &own, &stage, rows, objective, &mono, up)?;
+            let found = ray_supremum(alloc, goal, &own, &stage, &mono, up)?;
             let left = Some(stage);
             Ok((found, ending_of(own, copies, left)))
         }
         None => {
-            let (found, left) = supremum_over(
-                alloc, columns, &own, stage, rows, objective, budget,
-            )?;
+            let (found, left) = supremum_over(alloc, goal, &own, stage, budget)?;
             Ok((found, ending_of(own, copies, left)))
         }
     }
@@ -198,55 +212,55 @@ fn supremum_at(
 /// The corner, and the ray from it along a monomial that no row has.
 fn ray_supremum(
     alloc: Global,
-    columns: &[Mono],
+    goal: GoalOver<'_>,
     own: &Items<Mono>,
     stage: &Stage,
-    rows: &[Row],
-    objective: &Poly,
     mono: &Mono,
     up: bool,
 ) -> Result<Supremum, SearchStop>
     ghost over: { Framed }
-    requires frame { over ≡ frame_over own.now rows.now objective.now }
-    requires columns { AreColumnsOf columns.now rows.now objective.now }
-    requires own { own.now ≡ columns_of rows.now [] }
-    requires met { IsMetFor own.now rows.now objective.now stage.now.enters stage.now.tableau }
-    requires besides { IsBesides own.now objective.now.terms mono.now up }
+    requires frame { over ≡ frame_over own.now goal.rows.now goal.objective.now }
+    requires columns { AreColumnsOf goal.columns.now goal.rows.now goal.objective.now }
+    requires own { own.now ≡ columns_of goal.rows.now [] }
+    requires met { IsMetFor own.now goal.rows.now goal.objective.now stage.now.enters
+        stage.now.tableau }
+    requires besides { IsBesides own.now goal.objective.now.terms mono.now up }
     ensures supremum { (budget : ℕ) → IfOk result
-        (λ found. IsSupremumOver columns.now rows.now objective.now budget found) }
+        (λ found. IsSupremumOver goal.entry.columns.now goal.entry.rows.now goal.entry.objective.now
+        budget found) }
     ensures refusal { IfErr result
-        (IsRefusalIn (frame_over columns.now rows.now objective.now) (length rows.now + 1)) }
+        (IsRefusalIn (own_frame goal.entry.rows.now goal.entry.objective.now)
+        (length goal.entry.rows.now + 1)) }
 {
-    let (_rows, _objective) = (rows, objective);
     let point = corner(alloc, &stage.tableau, own.len())?;
-    let at = widened_numbers(alloc, own.as_slice(), columns, point.as_slice())?;
-    let ray = unit_ray(alloc, mono, up, columns)?;
+    let at = widened_numbers(alloc, own.as_slice(), goal.columns, point.as_slice())?;
+    let ray = unit_ray(alloc, mono, up, goal.columns)?;
     Ok(Supremum::Unbounded(at, ray))
 }
 
 /// The raise of the objective, whose monomials are all among the rows'.
 fn supremum_over(
     alloc: Global,
-    columns: &[Mono],
+    goal: GoalOver<'_>,
     own: &Items<Mono>,
     stage: Stage,
-    rows: &[Row],
-    objective: &Poly,
     budget: u128,
 ) -> Result<(Supremum, Option<Stage>), SearchStop>
-    requires columns { AreColumnsOf columns.now rows.now objective.now }
-    requires own { own.now ≡ columns_of rows.now [] }
-    requires met { IsMetFor own.now rows.now objective.now stage.enters stage.tableau }
-    requires inside { AreAmong (keys_of objective.now.terms) own.now }
+    requires columns { AreColumnsOf goal.columns.now goal.rows.now goal.objective.now }
+    requires own { own.now ≡ columns_of goal.rows.now [] }
+    requires met { IsMetFor own.now goal.rows.now goal.objective.now stage.enters stage.tableau }
+    requires inside { AreAmong (keys_of goal.objective.now.terms) own.now }
     ensures supremum { IfOk result
-        (λ r. IsSupremumOver columns.now rows.now objective.now budget r.0) }
+        (λ r. IsSupremumOver goal.entry.columns.now goal.entry.rows.now goal.entry.objective.now
+        budget r.0) }
     ensures left { IfOk result
-        (λ r. IfSome r.1 (λ s. StandsAt own.now rows.now s.enters s.tableau)) }
+        (λ r. IfSome r.1 (λ s. StandsAt own.now goal.entry.rows.now s.enters s.tableau)) }
     ensures refusal { IfErr result
-        (IsRefusalIn (frame_over columns.now rows.now objective.now) (length rows.now + 1)) }
+        (IsRefusalIn (own_frame goal.entry.rows.now goal.entry.objective.now)
+        (length goal.entry.rows.now + 1)) }
 {
-    let (found, left) = supremum_from_corner(alloc, own, stage, rows, objective, budget)?;
-    let wide = widened_supremum(alloc, own.as_slice(), columns, found)?;
+    let (found, left) = supremum_from_corner(alloc, own, stage, goal.rows, goal.objective, budget)?;
+    let wide = widened_supremum(alloc, own.as_slice(), goal.columns, found)?;
     Ok((wide, left))
 }
 

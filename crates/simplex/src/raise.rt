@@ -4,6 +4,7 @@ ghost use Rattle.simplex.specs.Exchange.{HasShape, IsTableauOf, ArePrimitive};
 ghost use Rattle.farkas_check.specs.Relations.{entry};
 ghost use Rattle.simplex.specs.Calm.{HasSquares, IsSmallLine, HasSmallLines};
 ghost use Rattle.simplex.specs.Refusal.{LeavesBits, IsRefusalIn};
+ghost use Rattle.simplex.specs.SearchSteps.{IsComparisonStep};
 ghost use Rattle.simplex.specs.Raise.{EntersFirst, sign_of, enters_at, order_at, comes_before, LeavingOf, Framed, Begins};
 ghost use Rattle.simplex.specs.History.{RaisedFrom, CameTo, MovedTo, EndsAt};
 
@@ -117,32 +118,46 @@ pub enum Turn {
     Moved,
 }
 
+/// A raise of the goal of a line.
+#[derive(Clone, Copy)]
+pub(crate) struct Raise<'a> {
+    /// The column of the constants.
+    pub(crate) constants: usize,
+    /// The line of the goal.
+    pub(crate) goal: usize,
+    /// Whether the goal is raised, and not lowered.
+    pub(crate) up: bool,
+    /// Whether the raise ends where the goal's constant is not positive.
+    pub(crate) until: bool,
+    /// Which columns may enter; a line may leave if its choice may enter.
+    pub(crate) enters: &'a [bool],
+    /// The columns at which lines that may leave are compared, one after another.
+    pub(crate) keys: &'a [usize],
+}
+
 /// Raises the goal of a line, or lowers it, by exchanges of columns that may enter for lines that
 /// may leave, or `until` its constant is not positive. The turns are used up only where there are
 /// as many choices of columns.
 pub(crate) fn raised_goal(
     alloc: Global,
     t: Tableau,
-    constants: usize,
-    goal: usize,
-    up: bool,
-    until: bool,
-    enters: &[bool],
-    keys: &[usize],
+    raise: Raise<'_>,
     budget: u128,
 ) -> Result<(Tableau, RaiseEnd), SearchStop>
     ghost over: { Framed }
-    requires begins { Begins over enters.now constants keys.now goal t }
+    requires begins { Begins over raise.enters.now raise.constants raise.keys.now raise.goal t }
     requires primitive { ArePrimitive t }
     ensures tableau { IfOk result
-        (λ r. RaisedFrom over enters.now constants keys.now goal (sign_of up) t r.0) }
+        (λ r. RaisedFrom over raise.entry.enters.now raise.entry.constants raise.entry.keys.now
+        raise.entry.goal (sign_of raise.entry.up) t r.0) }
     ensures ends { IfOk result
-        (λ r. EndsAt over enters.now constants (sign_of up) until goal budget r.0 r.1) }
+        (λ r. EndsAt over raise.entry.enters.now raise.entry.constants (sign_of raise.entry.up)
+        raise.entry.until raise.entry.goal budget r.0 r.1) }
     ensures refusal { IfErr result (IsRefusalIn over (length t.lines)) }
 {
     let mut now = t;
     for _turn in 0..budget {
-        let (next, came) = one_turn(alloc, now, constants, goal, up, until, enters, keys)?;
+        let (next, came) = one_turn(alloc, now, raise)?;
         now = next;
         match came {
             Turn::Met => return Ok((now, RaiseEnd::Met)),
@@ -162,55 +177,48 @@ fn is_met(line: &[i128], constants: usize, until: bool) -> bool
     until && line[constants] <= 0
 }
 
-fn one_turn(
-    alloc: Global,
-    t: Tableau,
-    constants: usize,
-    goal: usize,
-    up: bool,
-    until: bool,
-    enters: &[bool],
-    keys: &[usize],
-) -> Result<(Tableau, Turn), SearchStop>
+fn one_turn(alloc: Global, t: Tableau, raise: Raise<'_>) -> Result<(Tableau, Turn), SearchStop>
     ghost over: { Framed }
     requires tableau { IsTableauOf over.units over.frame t }
     requires primitive { ArePrimitive t }
-    requires wide { length enters.now ≡ over.units + length t.lines }
-    requires goal { goal < length t.lines }
-    requires constants { constants < length enters.now }
-    requires keys { AllByRecursion (λ c. c < length enters.now) keys.now }
+    requires wide { length raise.enters.now ≡ over.units + length t.lines }
+    requires goal { raise.goal < length t.lines }
+    requires constants { raise.constants < length raise.enters.now }
+    requires keys { AllByRecursion (λ c. c < length raise.enters.now) raise.keys.now }
     ensures came { IfOk result
-        (λ r. CameTo enters.now constants keys.now (sign_of up) until goal t r.0 r.1) }
+        (λ r. CameTo raise.entry.enters.now raise.entry.constants raise.entry.keys.now
+        (sign_of raise.entry.up) raise.entry.until raise.entry.goal t r.0 r.1) }
     ensures refusal { IfErr result (IsRefusalIn over (length t.lines)) }
 {
-    if is_met(t.lines[goal].as_slice(), constants, until) {
+    if is_met(t.lines[raise.goal].as_slice(), raise.constants, raise.until) {
         return Ok((t, Turn::Met));
     }
-    let Some(column) = entering(t.lines[goal].as_slice(), up, enters) else {
+    let line = t.lines[raise.goal].as_slice();
+    let Some(column) = entering(line, raise.up, raise.enters) else {
         return Ok((t, Turn::Best));
     };
-    exchange_column(alloc, t, constants, column, enters, keys)
+    exchange_column(alloc, t, raise, column)
 }
 
 /// Exchanges the column for the line that leaves where it enters, if one does.
 fn exchange_column(
     alloc: Global,
     t: Tableau,
-    constants: usize,
+    raise: Raise<'_>,
     column: usize,
-    enters: &[bool],
-    keys: &[usize],
 ) -> Result<(Tableau, Turn), SearchStop>
     ghost over: { Framed }
     requires tableau { IsTableauOf over.units over.frame t }
     requires primitive { ArePrimitive t }
-    requires wide { length enters.now ≡ over.units + length t.lines }
-    requires column { column < length enters.now }
-    requires keys { AllByRecursion (λ c. c < length enters.now) keys.now }
-    ensures came { IfOk result (λ r. MovedTo enters.now constants keys.now column t r.0 r.1) }
+    requires wide { length raise.enters.now ≡ over.units + length t.lines }
+    requires column { column < length raise.enters.now }
+    requires keys { AllByRecursion (λ c. c < length raise.enters.now) raise.keys.now }
+    ensures came { IfOk result
+        (λ r. MovedTo raise.entry.enters.now raise.entry.constants raise.entry.keys.now column t r.0
+        r.1) }
     ensures refusal { IfErr result (IsRefusalIn over (length t.lines)) }
 {
-    match leaving(&t, constants, column, enters, keys)? {
+    match leaving(&t, raise, column)? {
         None => Ok((t, Turn::Open(column))),
         Some(line) => {
             let next = t.exchange(alloc, line, column)?;
@@ -221,26 +229,23 @@ fn exchange_column(
 
 /// The line that leaves where a column enters: of those that may leave and are positive there, the
 /// least by the keys.
-pub(crate) fn leaving(
-    t: &Tableau,
-    constants: usize,
-    column: usize,
-    enters: &[bool],
-    keys: &[usize],
-) -> Result<Option<usize>, Wide>
-    requires shape { HasShape (length enters.now) t.now }
+fn leaving(t: &Tableau, raise: Raise<'_>, column: usize) -> Result<Option<usize>, Wide>
+    requires shape { HasShape (length raise.enters.now) t.now }
     requires choices { (i : ℕ) → i < length t.now.lines
-        → get_or t.now.chosen i 0 < length enters.now }
-    requires column { column < length enters.now }
-    requires keys { AllByRecursion (λ c. c < length enters.now) keys.now }
+        → get_or t.now.chosen i 0 < length raise.enters.now }
+    requires column { column < length raise.enters.now }
+    requires keys { AllByRecursion (λ c. c < length raise.enters.now) raise.keys.now }
     ensures least { IfOk result
-        (λ line. LeavingOf (length t.now.lines) enters.now constants keys.now column t.now line) }
+        (λ line. LeavingOf (length t.now.lines) raise.entry.enters.now raise.entry.constants
+        raise.entry.keys.now column t.now line) }
     ensures width { IfErr result LeavesBits }
+    ensures step { IfErr result
+        (IsComparisonStep t.now raise.entry.constants column raise.entry.keys.now) }
     ensures calm { (n : ℕ) → HasSquares n → HasSmallLines n t.now → IfErr result (λ _. ⊥) }
 {
     let mut found = None;
     for i in 0..t.lines.len() {
-        found = least_with(t, constants, column, enters, keys, found, i)?;
+        found = least_with(t, raise, column, found, i)?;
     }
     Ok(found)
 }
@@ -249,33 +254,36 @@ pub(crate) fn leaving(
 #[tactic(auto, using(crate::proofs::LeavingLines::running_least))]
 fn least_with(
     t: &Tableau,
-    constants: usize,
+    raise: Raise<'_>,
     column: usize,
-    enters: &[bool],
-    keys: &[usize],
     found: Option<usize>,
     i: usize,
 ) -> Result<Option<usize>, Wide>
-    requires shape { HasShape (length enters.now) t.now }
+    requires shape { HasShape (length raise.enters.now) t.now }
     requires choices { (i : ℕ) → i < length t.now.lines
-        → get_or t.now.chosen i 0 < length enters.now }
-    requires column { column < length enters.now }
-    requires keys { AllByRecursion (λ c. c < length enters.now) keys.now }
+        → get_or t.now.chosen i 0 < length raise.enters.now }
+    requires column { column < length raise.enters.now }
+    requires keys { AllByRecursion (λ c. c < length raise.enters.now) raise.keys.now }
     requires line { i < length t.now.lines }
-    requires before { LeavingOf i enters.now constants keys.now column t.now found }
+    requires before { LeavingOf i raise.enters.now raise.constants raise.keys.now column t.now
+        found }
     ensures least { IfOk result
-        (λ line. LeavingOf (i + 1) enters.now constants keys.now column t.now line) }
+        (λ line. LeavingOf (i + 1) raise.entry.enters.now raise.entry.constants raise.entry.keys.now
+        column t.now line) }
     ensures width { IfErr result LeavesBits }
+    ensures step { IfErr result
+        (IsComparisonStep t.now raise.entry.constants column raise.entry.keys.now) }
     ensures calm { (n : ℕ) → HasSquares n → HasSmallLines n t.now → IfErr result (λ _. ⊥) }
 {
     let line = t.lines[i].as_slice();
-    if !enters[t.chosen[i]] || line[column] <= 0 {
+    if !raise.enters[t.chosen[i]] || line[column] <= 0 {
         return Ok(found);
     }
     match found {
         None => Ok(Some(i)),
         Some(k) => {
-            if comes_before(constants, column, line, t.lines[k].as_slice(), keys)? {
+            let other = t.lines[k].as_slice();
+            if comes_before(raise.constants, column, line, other, raise.keys)? {
                 Ok(Some(i))
             } else {
                 Ok(Some(k))

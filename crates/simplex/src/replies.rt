@@ -2,8 +2,8 @@ ghost use Rattle.std.specs.Prelude.{◌-◌, ◌^◌, IfOk};
 ghost use Rattle.farkas_check.specs.Calm.{IsCalm, IsLiveAndCalm};
 ghost use Rattle.farkas_check.specs.Meaning.{IsLimit, IsTight};
 ghost use Rattle.farkas_check.specs.Tested.{Passes};
-ghost use Rattle.simplex.specs.Answers.{IsWide};
-ghost use Rattle.simplex.specs.Whole.{PivotsIn};
+ghost use Rattle.simplex.specs.Answers.{IsWide, NamesStep};
+ghost use Rattle.simplex.specs.Whole.{PivotsIn, IsStepOf};
 
 use crate::Endings;
 use crate::goals::sup_with;
@@ -23,6 +23,7 @@ pub fn answer_with(
     ensures wide { IsCalm question.now → IfOk result (λ a. IsWide a → ⊥) }
     ensures pivots { IfOk result (PivotsIn (2 ^ 127 - 1) question.now) }
     ensures calm { IsLiveAndCalm question.now → IfOk result (λ a. IsLimit a → ⊥) }
+    ensures step { IfOk result (NamesStep (IsStepOf question.now)) }
 {
     match question {
         Question::Sup(goals) => sup_with(alloc, goals.as_slice(), endings),

@@ -8,7 +8,7 @@ ghost use Rattle.simplex.specs.Search.{IsPlaced, TurnedAt, IsMet, IsSolving, Fou
 
 use crate::frame::{framed_tableau, kinds_of};
 use crate::gauss::{Stage, equations, inequalities, with_entry};
-use crate::raise::raised_goal;
+use crate::raise::{Raise, raised_goal};
 use crate::{RaiseEnd, SearchStop, Tableau};
 use items::Items;
 use linear_terms::{Kind, Mono, Row};
@@ -79,17 +79,15 @@ fn turn_of(
         enters.as_slice(),
         constants,
     )?;
-    let (raised, came) = raised_goal(
-        alloc,
-        tableau,
+    let raise = Raise {
         constants,
-        i,
-        true,
-        true,
-        enters.as_slice(),
-        keys.as_slice(),
-        budget,
-    )?;
+        goal: i,
+        up: true,
+        until: true,
+        enters: enters.as_slice(),
+        keys: keys.as_slice(),
+    };
+    let (raised, came) = raised_goal(alloc, tableau, raise, budget)?;
     match came {
         RaiseEnd::Met => Ok((
             stage_with_row(raised, enters, constants + 1 + i),

@@ -3,12 +3,15 @@ ghost use Rattle.items.specs.Gives.{Gives};
 ghost use Rattle.farkas_check.specs.Points.{ratio_at, ratio_value};
 ghost use Rattle.farkas_check.specs.Ratios.{Fraction};
 ghost use Rattle.farkas_check.specs.Relations.{entry, is_reduced};
-ghost use Rattle.farkas_check.specs.Stratum.{minus_value};
+ghost use Rattle.farkas_check.specs.Stratum.{terms_of, minus_value};
 ghost use Rattle.simplex.specs.Exchange.{cause, numbers_of};
 ghost use Rattle.simplex.specs.Raise.{Framed};
 ghost use Rattle.simplex.specs.Calm.{IsMemory};
-ghost use Rattle.simplex.specs.CalmStrata.{IsRefusalOf, IsRefusalUnder, HasSmallScales, IsCalmSpot};
+ghost use Rattle.simplex.specs.CalmStrata.{IsRefusalOf, IsRefusalUnder, IsLinesStep, IsUnitStep, HasSmallScales, AreSpotsOf, IsCalmSpot};
+ghost use Rattle.simplex.specs.Points.{IsSpotAt};
 ghost use Rattle.simplex.specs.Refusal.{LeavesBits, IsRefusal};
+ghost use Rattle.simplex.specs.SearchSteps.{StopsBy, StopsAt};
+ghost use Rattle.simplex.specs.StrataSteps.{line_at};
 ghost use Rattle.simplex.specs.Spots.{values_of, AreSideValues, HasMoreLine, AreIndependent, IsNewPoint, IsUnchosen, ChoosesUnknowns, entries_to, spot_row, spot_rows, spots_framed, spots_frame, IsSpotTableau, AreSpots, IsLastColumn, IsRelationOf, IsSpotLine, AreRelations};
 ghost use Rattle.simplex.specs.Spots.{unit_multiple, multiples_from, AreUnitLists, chosen_below};
 
@@ -108,6 +111,7 @@ fn side_values(
 ) -> Result<Items<Ratio>, SearchStop>
     ensures values { IfOk result (AreSideValues columns.now point.now terms.now lower.now) }
     ensures refusal { IfErr result IsRefusal }
+    ensures step { IfErr result (StopsAt (line_at columns.now point.now terms.now lower.now)) }
     ensures calm { (own others : List Fraction)
         → values_of (ratio_value (ratio_at columns.now point.now)) terms.now ≡ Ok own
         → values_of (minus_value (ratio_value (ratio_at columns.now point.now))) lower.now
@@ -182,6 +186,7 @@ fn with_last(
     ensures tableau { IfOk result (λ made. IsSpotTableau count lines.now made) }
     ensures chosen { IfOk result (ChoosesUnknowns count (line + 1)) }
     ensures refusal { IfErr result (IsRefusalUnder count lines.now) }
+    ensures step { IfErr result (StopsBy (IsLinesStep count lines.now)) }
 {
     let _lines = lines;
     match last_column(t.lines[line].as_slice(), count) {
@@ -214,6 +219,7 @@ fn spot_tableau(alloc: Global, count: usize, lines: &[Items<i128>]) -> Result<Ta
     ensures tableau { IfOk result (λ t. IsSpotTableau count lines.now t) }
     ensures chosen { IfOk result (ChoosesUnknowns count (length lines.now)) }
     ensures refusal { IfErr result (IsRefusalUnder count lines.now) }
+    ensures step { IfErr result (StopsBy (IsLinesStep count lines.now)) }
 {
     let mut t = spots_framed(alloc, count, lines)?;
     for line in 0..lines.len() {
@@ -253,6 +259,9 @@ pub(crate) fn with_spot(
     requires apart { IsNewPoint strata.now.columns.now spot.at terms.now strata.now.lower.now
         strata.now.count known.lines }
     requires calm { IsCalmSpot strata.now terms.now spot.at known.lines }
+    requires of { AreSpotsOf strata.now known }
+    requires point { IsSpotAt strata.now.columns.now strata.now.cases.now spot }
+    requires terms { terms.now ≡ terms_of strata.now.cases.now spot.case }
     ensures more { IfOk result (λ made. made.spots ≡ known.spots ++ spot ∷ []) }
     ensures line { IfOk result
         (HasMoreLine strata.now.columns.now spot.at terms.now strata.now.lower.now known) }
@@ -272,6 +281,8 @@ fn spot_line(
     spot: &Spot,
 ) -> Result<(Items<i128>, i128), SearchStop>
     requires calm { IsCalmSpot strata.now terms.now spot.now.at known.now.lines }
+    requires point { IsSpotAt strata.now.columns.now strata.now.cases.now spot.now }
+    requires terms { terms.now ≡ terms_of strata.now.cases.now spot.now.case }
     ensures line { IfOk result
         (λ r. IsSpotLine strata.now.columns.now spot.now.at terms.now strata.now.lower.now r.0
         r.1) }
@@ -306,6 +317,7 @@ fn more_spots(
     ensures scales { IfOk result (λ made. made.scales ≡ known.scales ++ scale ∷ []) }
     ensures spots { IfOk result (λ made. AreSpots count made) }
     ensures refusal { IfErr result (IsRefusalUnder count (known.lines ++ line ∷ [])) }
+    ensures step { IfErr result (StopsBy (IsLinesStep count (known.lines ++ line ∷ []))) }
 {
     let Spots {
         mut spots,
@@ -343,6 +355,7 @@ pub(crate) fn relation_of(
     ensures relation { IfOk result
         (λ numbers. IsRelationOf count known.now.tableau unknown numbers) }
     ensures refusal { IfErr result (IsRefusalUnder count known.now.lines) }
+    ensures step { IfErr result (StopsBy (IsLinesStep count known.now.lines)) }
 {
     let ratios = ray(alloc, &known.tableau, count, unknown, true)?;
     let scale = common_denominator(ratios.as_slice())?;
@@ -363,6 +376,7 @@ fn with_unknown(
     ensures relations { IfOk result
         (λ made. AreRelations count known.now.tableau (unknown + 1) made) }
     ensures refusal { IfErr result (IsRefusalUnder count known.now.lines) }
+    ensures step { IfErr result (StopsBy (IsLinesStep count known.now.lines)) }
 {
     let mut made = made;
     match line_choosing(known.tableau.chosen.as_slice(), unknown) {
@@ -385,6 +399,7 @@ pub(crate) fn relations_of(
     ensures relations { IfOk result (λ made. AreRelations count known.now.tableau count made) }
     ensures reduced { IfOk result (λ made. IsTrue (is_reduced made)) }
     ensures refusal { IfErr result (IsRefusalUnder count known.now.lines) }
+    ensures step { IfErr result (StopsBy (IsLinesStep count known.now.lines)) }
 {
     let mut made = Items::new(alloc);
     for unknown in 0..count {
@@ -442,6 +457,7 @@ fn with_unit(
     ensures lists { IfOk result
         (AreUnitLists count known.now (chosen_below known.now.tableau (unknown + 1))) }
     ensures refusal { IfErr result (IsRefusalUnder count known.now.lines) }
+    ensures step { IfErr result (StopsBy (IsUnitStep count known.now)) }
 {
     let mut made = made;
     match line_choosing(known.tableau.chosen.as_slice(), unknown) {
@@ -466,6 +482,7 @@ pub(crate) fn unit_lists(
     ensures lists { IfOk result
         (AreUnitLists count known.now (chosen_below known.now.tableau count)) }
     ensures refusal { IfErr result (IsRefusalUnder count known.now.lines) }
+    ensures step { IfErr result (StopsBy (IsUnitStep count known.now)) }
 {
     let mut made = Items::new(alloc);
     for unknown in 0..count {

@@ -6,15 +6,17 @@ ghost use Rattle.farkas_check.specs.Relations.{term_count, have_equally_many, nu
 ghost use Rattle.farkas_check.specs.Stratum.{terms_of};
 ghost use Rattle.farkas_check.specs.Tested.{Passes};
 ghost use Rattle.farkas_check.specs.declared.question.Question.TheVariants as question;
-ghost use Rattle.simplex.specs.Answers.{IsWide};
+ghost use Rattle.simplex.specs.Answers.{IsWide, NamesStep};
 ghost use Rattle.simplex.specs.Calm.{IsMemory};
-ghost use Rattle.simplex.specs.CalmStrata.{IsRefusalOf, IsRefusalUnder, IsCalmRelation};
+ghost use Rattle.simplex.specs.CalmStrata.{IsRefusalOf, IsRefusalUnder, IsLinesStep, IsCalmRelation};
 ghost use Rattle.simplex.specs.Refusal.{IsRefusal};
 ghost use Rattle.simplex.specs.Relations.{IsRelationWith};
+ghost use Rattle.simplex.specs.SearchSteps.{StopsBy};
+ghost use Rattle.simplex.specs.StrataSteps.{IsCandidate, IsSearchStep};
 ghost use Rattle.simplex.specs.Points.{IsPointAt};
 ghost use Rattle.simplex.specs.SmallBasis.{HasFewRows, HasSmallEnd, HasSmallTies, HasSmallVerdict, IsRefusalOver, IsSmallIn, IsSmallOver, IsSmallWhereCalm};
 ghost use Rattle.simplex.specs.Spots.{AreSpots, AreRelations, IsNewPoint, IsRelationOf, IsUnchosen};
-ghost use Rattle.simplex.specs.Strata.{IsAsked, AreKnown, VerdictAt, CourseAt, IsFoundOver, IsFoundIn, PivotsOver, IsStratumAnswer};
+ghost use Rattle.simplex.specs.Strata.{IsAsked, AreKnown, VerdictAt, CourseAt, IsFoundOver, IsFoundIn, PivotsOver, IsStratumStep, IsStratumAnswer};
 ghost use Rattle.simplex.specs.Ties.{AreTies};
 ghost use Rattle.simplex.specs.declared.stop.SearchStop.TheVariants as stop;
 
@@ -70,6 +72,7 @@ pub fn stratum(alloc: Global, asked: &Stratum) -> Result<Answer, AllocError>
     ensures wide { IsCalm (question.Stratum asked.now) → IfOk result (λ a. IsWide a → ⊥) }
     ensures pivots { IfOk result (λ a. PivotsOver (2 ^ 127 - 1) asked.now a) }
     ensures calm { IsLiveAndCalm (question.Stratum asked.now) → IfOk result (λ a. IsLimit a → ⊥) }
+    ensures step { IfOk result (NamesStep (IsStratumStep asked.now)) }
 {
     truth_of_passing();
     let found = answer_of_strata(alloc, asked)?;
@@ -137,6 +140,9 @@ fn searched_strata(alloc: Global, asked: &Stratum, budget: u128) -> Result<Answe
     ensures small { IfOk result (IsSmallWhereCalm asked.now) }
     ensures refusal { IfErr result IsRefusal }
     ensures calm { IsCalm (question.Stratum asked.now) → IfErr result IsMemory }
+    ensures step { IfErr result
+        (StopsBy (IsSearchStep (stratum_columns asked.now.cases asked.now.lower) asked.now.cases
+        asked.now.lower)) }
 {
     let columns = stratum_columns(alloc, asked)?;
     let cases = asked.cases();
@@ -175,6 +181,7 @@ fn basis_over(
     ensures refusal { IfErr result IsRefusal }
     ensures calm { length cases.now ≤ 4294967296 → IsCalmStratum columns.now cases.now lower.now
         → IfErr result IsMemory }
+    ensures step { IfErr result (StopsBy (IsSearchStep columns.now cases.now lower.now)) }
 {
     let strata = StrataQuestion {
         cases,
@@ -409,6 +416,7 @@ fn has_last_relations(
     ensures all { IfOk result (λ same. IsTrue same
         → AreRelations count known.now.spots.tableau count (map numbers_of known.now.relations)) }
     ensures refusal { IfErr result (IsRefusalUnder count known.now.spots.lines) }
+    ensures step { IfErr result (StopsBy (IsLinesStep count known.now.spots.lines)) }
 {
     let last = relations_of(alloc, count, &known.spots)?;
     let own = number_lists(alloc, known.relations.as_slice())?;
@@ -540,6 +548,8 @@ fn verdict_of(
     requires numbers { length numbers.now ≡ strata.now.count }
     requires few { strata.now.count < 2 ^ 61 }
     requires calm { IsCalmRelation strata.now numbers.now }
+    requires candidate { IsCandidate strata.now.columns.now strata.now.cases.now
+        strata.now.lower.now numbers.now }
     ensures verdict { IfOk result (VerdictAt strata.now numbers.now) }
     ensures small { IfOk result (HasSmallVerdict strata.now) }
     ensures refusal { IfErr result (IsRefusalOf strata.now) }

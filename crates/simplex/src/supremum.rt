@@ -11,7 +11,7 @@ ghost use Rattle.simplex.specs.Suprema.{with_goal, frame_over, goal_frame, IsSup
 use crate::corner::{corner, ray};
 use crate::frame::{framed_tableau, kinds_of};
 use crate::gauss::{Stage, question_column};
-use crate::raise::raised_goal;
+use crate::raise::{Raise, raised_goal};
 use crate::search::{SearchEnd, corner_search, keys_of};
 use crate::tableau::line_multiple;
 use crate::{RaiseEnd, SearchStop, Tableau};
@@ -284,17 +284,15 @@ fn lowered_goal(
         enters.as_slice(),
         constants,
     )?;
-    let (t, came) = raised_goal(
-        alloc,
-        tableau,
+    let raise = Raise {
         constants,
         goal,
-        false,
-        false,
-        enters.as_slice(),
-        keys.as_slice(),
-        budget,
-    )?;
+        up: false,
+        until: false,
+        enters: enters.as_slice(),
+        keys: keys.as_slice(),
+    };
+    let (t, came) = raised_goal(alloc, tableau, raise, budget)?;
     match came {
         RaiseEnd::Met => Ok((t, Top::Best)),
         RaiseEnd::Best => Ok((t, Top::Best)),

@@ -1,4 +1,4 @@
-use Rattle.std.proofs.Common.{rules, inl, inr}
+use Rattle.std.proofs.Common.{rules, ◌≡◌, Err, inl, inr}
 use Rattle.std.specs.Prelude.{IfErr}
 use Rattle.simplex.specs.CalmStrata.{IsRefusalOf}
 use Rattle.simplex.specs.Suprema.{IsSupremumOver}
@@ -9,6 +9,8 @@ use Rattle.simplex.proofs.Further.{case_given, bound_apart, ray_apart, further_w
 use Rattle.simplex.proofs.HonestTies.{tied_half}
 use Rattle.simplex.proofs.SmallTies.{half_multipliers}
 use Rattle.simplex.proofs.SpotPoints.{bound_point, ray_point}
+use Rattle.simplex.specs.StrataSteps.{point_beyond, IsSearchStep, beyond_step}
+use Rattle.simplex.proofs.Stops.{stops_weaker}
 use Rattle.simplex.proofs.differences.half_at.Goals as goal
 
 pub returns-in-Empty-clause-half : goal.returns-in-Empty-clause-half
@@ -51,4 +53,6 @@ returns-in_err-at-in-Unbounded-clause-refusal c =
     (λ calm.
     let value = growing_value c.args.strata.now c.args.case.now c.args.numbers.now c.args.up c.args.objective.now c.args.strata.now.budget c.in-Unbounded.point c.in-Unbounded.ray c.requires.asked c.requires.asked.few_columns c.requires.case c.requires.calm c.requires.difference came calm in
     let sums = growing_sums c.args.strata.now c.args.case.now c.args.objective.now c.args.strata.now.budget c.in-Unbounded.point c.in-Unbounded.ray c.requires.case came calm in
-    c.point_apart.ensures.calm value.0 sums.0 value.1 sums.1) in search rules
+    c.point_apart.ensures.calm value.0 sums.0 value.1 sums.1)
+    (stops_weaker (λ step. point_beyond c.args.strata.now.columns.now c.args.objective.now c.in-Unbounded.point c.in-Unbounded.ray ≡ Err step) (IsSearchStep c.args.strata.now.columns.now c.args.strata.now.cases.now c.args.strata.now.lower.now) c.point_apart.result c.point_apart.ensures.step
+    (λ step e. beyond_step c.args.numbers.now c.args.up c.requires.case.place c.args.case.now c.args.objective.now c.args.strata.now.budget c.in-Unbounded.point c.in-Unbounded.ray c.requires.candidate c.requires.case.is c.requires.difference came e)) in search rules

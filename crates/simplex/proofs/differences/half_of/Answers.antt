@@ -3,7 +3,7 @@ use Rattle.std.specs.Prelude.{IfErr}
 use Rattle.linear_terms.specs.declared.row.Row.{Row}
 use Rattle.simplex.specs.CalmStrata.{IsRefusalOf}
 use Rattle.simplex.specs.Refusal.{IsRefusalIn}
-use Rattle.simplex.specs.Suprema.{frame_over, IsSupremumOver}
+use Rattle.simplex.specs.Suprema.{own_frame, IsSupremumOver}
 use Rattle.simplex.specs.Wider.{AreColumnsOf}
 use Rattle.simplex.proofs.CalmHalves.{half_refusal}
 use Rattle.simplex.proofs.OwnColumns.{difference_columns}
@@ -23,7 +23,8 @@ half_at-requires-clause-came c =
 pub returns-in_err-found-clause-refusal : goal.returns-in_err-found-clause-refusal
 returns-in_err-found-clause-refusal c =
     let own : c.as_slice.result.now ≡ c.args.case.now.rows = search rules in
-    let refused : IfErr c.supremum_from.result (IsRefusalIn (frame_over c.args.strata.now.columns.now c.args.case.now.rows c.in_ok-objective.objective) (length c.args.case.now.rows + 1)) =
-    subst (λ (rows : List Row). IfErr c.supremum_from.result (IsRefusalIn (frame_over c.args.strata.now.columns.now rows c.in_ok-objective.objective) (length rows + 1))) own c.supremum_from.ensures.refusal in
+    let refused : IfErr c.supremum_from.result (IsRefusalIn (own_frame c.args.case.now.rows c.in_ok-objective.objective) (length c.args.case.now.rows + 1)) =
+    subst (λ (rows : List Row). IfErr c.supremum_from.result (IsRefusalIn (own_frame rows c.in_ok-objective.objective) (length rows + 1))) own c.supremum_from.ensures.refusal in
+    let columns = difference_columns c.args.strata.now c.args.case.now c.args.numbers.now c.args.up c.in_ok-objective.objective c.requires.asked c.requires.case c.in_ok-objective.ensures.difference in
     let known : IfErr c.supremum_from.result (IsRefusalOf c.args.strata.now) =
-    half_refusal c.args.strata.now c.args.case.now c.args.numbers.now c.args.up c.in_ok-objective.objective c.supremum_from.result c.requires.case c.requires.calm c.in_ok-objective.ensures.difference refused in search rules
+    half_refusal c.args.strata.now c.args.case.now c.args.numbers.now c.args.up c.in_ok-objective.objective c.supremum_from.result columns c.requires.case c.requires.candidate c.requires.calm c.in_ok-objective.ensures.difference refused in search rules

@@ -2,7 +2,12 @@ use Rattle.std.proofs.Common.{◌≡◌, ◌<◌, ◌+◌, Ok, pos, true, sym, s
 use Rattle.std.proofs.lemmas.List.{get_or_read}
 use Rattle.std.specs.Prelude.{slice_set}
 use Rattle.linear_terms.specs.declared.row.Kind.TheVariants.{AtMost}
-use Rattle.simplex.specs.Exchange.{numbers_of, exchange}
+use Rattle.std.specs.Prelude.{IfErr}
+use Rattle.items.specs.Gives.{Gives}
+use Rattle.simplex.specs.Exchange.{cause, numbers_of, exchange}
+use Rattle.simplex.specs.Refusal.{IsRefusalIn}
+use Rattle.simplex.specs.declared.tableau.Tableau.{Tableau}
+use Rattle.simplex.proofs.Overruns.{refused_exchange}
 use Rattle.farkas_check.specs.Relations.{entry}
 use Rattle.simplex.specs.Rows.{kind_at}
 use Rattle.simplex.specs.Search.{IsFreeing}
@@ -20,3 +25,10 @@ returns-in_ok-next-in-Some-clause-freed g c =
     let made : c.with_entry.result ≡ slice_set c.args.stage.enters (c.args.constants + 1 + c.args.i) true = search rules in
     subst (λ (es : List Bool). IsFreeing g.over c.args.constants c.args.kinds.now (c.args.i + 1) es c.in_ok-next-in-Some.next) (sym made)
     (freed-more g.over c.args.constants c.args.kinds.now c.args.i c.in-Some.column c.args.stage.enters c.args.stage.tableau c.in_ok-next-in-Some.next c.requires.0 c.requires.1 kind within some exact)
+
+pub returns-in_err-next-in-Some-clause-refusal : goal.returns-in_err-next-in-Some-clause-refusal
+returns-in_err-next-in-Some-clause-refusal g c =
+    let sized = c.requires.0.marked.sized in
+    let exact : Gives cause (λ (u : Tableau). u) c.exchange.result (exchange c.args.stage.tableau c.args.i c.in-Some.column) = search rules in
+    let known : IfErr c.exchange.result (IsRefusalIn g.over (length c.args.kinds.now)) =
+    refused_exchange g.over (length c.args.kinds.now) c.args.stage.tableau (record { many = sym sized.many; tableau = sized.tableau; primitive = sized.primitive }) c.args.i c.in-Some.column c.exchange.result exact c.exchange.ensures.refusal c.exchange.ensures.calm in search rules

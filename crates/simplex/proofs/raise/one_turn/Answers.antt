@@ -6,9 +6,9 @@ use Rattle.simplex.proofs.raise.one_turn.Goals as goal
 
 pub returns-clause-came : goal.returns-clause-came
 returns-clause-came g c =
-    let inside : c.args.goal < length c.args.t.lines = search rules in
-    let first : c.as_slice.result.now ≡ get_or c.args.t.lines c.args.goal [] = get_or_read c.args.t.lines c.args.goal c.as_slice.result.now inside (search rules) [] in
-    let second : c.as_slice-2.result.now ≡ get_or c.args.t.lines c.args.goal [] = get_or_read c.args.t.lines c.args.goal c.as_slice-2.result.now inside (search rules) [] in
+    let inside : c.args.raise.goal < length c.args.t.lines = search rules in
+    let first : c.as_slice.result.now ≡ get_or c.args.t.lines c.args.raise.goal [] = get_or_read c.args.t.lines c.args.raise.goal c.as_slice.result.now inside (search rules) [] in
+    let second : c.as_slice-line.result.now ≡ get_or c.args.t.lines c.args.raise.goal [] = get_or_read c.args.t.lines c.args.raise.goal c.as_slice-line.result.now inside (search rules) [] in
     let unmet : c.is_met.result ≡ false = search rules in
-    came_moved c.args.enters.now c.args.constants c.args.keys.now (sign_of c.args.up) c.args.until c.args.goal c.in-Some.column c.args.t c.as_slice.result.now c.as_slice-2.result.now c.exchange_column.result first second
+    came_moved c.args.raise.enters.now c.args.raise.constants c.args.raise.keys.now (sign_of c.args.raise.up) c.args.raise.until c.args.raise.goal c.in-Some.column c.args.t c.as_slice.result.now c.as_slice-line.result.now c.exchange_column.result first second
     (sym c.is_met.ensures ∙ unmet) c.in-Some.ensures (search rules) c.exchange_column.ensures.came

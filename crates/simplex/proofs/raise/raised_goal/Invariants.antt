@@ -6,4 +6,4 @@ abbrev pub ghost-one_turn : goal.ghost-one_turn
 ghost-one_turn g a = g.over
 
 abbrev pub invariant-loop-turn : goal.invariant-loop-turn
-invariant-loop-turn g l = Raises g.over l.enters l.constants l.keys l.goal (sign_of l.up) l.fn.t l.now l._turn
+invariant-loop-turn g l = Raises g.over l.raise.enters.now l.raise.constants l.raise.keys.now l.raise.goal (sign_of l.raise.up) l.fn.t l.now l._turn

@@ -1,6 +1,10 @@
-use Rattle.std.proofs.Common.{◌≡◌, ◌+◌, ℕ, List, Bool, Ok, pos, true, sym, subst, rules}
-use Rattle.std.specs.Prelude.{slice_set}
-use Rattle.simplex.specs.Exchange.{exchange}
+use Rattle.std.proofs.Common.{◌≡◌, ◌∙◌, ◌+◌, ℕ, List, Bool, Ok, length, pos, true, sym, subst, rules}
+use Rattle.std.specs.Prelude.{slice_set, IfErr}
+use Rattle.items.specs.Gives.{Gives}
+use Rattle.simplex.specs.Exchange.{cause, exchange}
+use Rattle.simplex.specs.Refusal.{IsRefusalIn}
+use Rattle.simplex.specs.declared.tableau.Tableau.{Tableau}
+use Rattle.simplex.proofs.Overruns.{refused_exchange}
 use Rattle.simplex.specs.History.{Raises, EndsAt}
 use Rattle.simplex.specs.Raise.{Begins, keys_of}
 use Rattle.simplex.specs.Search.{IsKept}
@@ -60,3 +64,11 @@ returns-in-Best-clause-came g c =
     subst (λ (enters : List Bool). EndsAt g.over enters c.args.constants (pos 1) true c.args.i c.args.budget c.in_ok-raised.raised raised.Best) es
     (subst (λ (came : RaiseEnd). EndsAt g.over c.as_slice-3.result.now c.args.constants (pos 1) true c.args.i c.args.budget c.in_ok-raised.raised came) c.in-Best.is c.in_ok-raised.ensures.ends) in
     refuted-best g.over c.args.constants c.args.kinds.now c.args.stage.enters c.args.stage.tableau c.in_ok-raised.raised c.args.i c.in_ok-raised.ensures.tableau.0 c.requires.0 r c.requires.1.1.1.1 c.requires.1.0 c.requires.1.1.0 c.requires.1.1.1.0 ends.0 ends.1
+
+pub returns-in_err-next-in-Open-clause-refusal : goal.returns-in_err-next-in-Open-clause-refusal
+returns-in_err-next-in-Open-clause-refusal g c =
+    let sized = c.requires.0.marked.sized in
+    let r = c.in_ok-raised.ensures.tableau.1 in
+    let exact : Gives cause (λ (u : Tableau). u) c.exchange.result (exchange c.in_ok-raised.raised c.args.i c.in-Open.column) = search rules in
+    let known : IfErr c.exchange.result (IsRefusalIn g.over (length c.args.kinds.now)) =
+    refused_exchange g.over (length c.args.kinds.now) c.in_ok-raised.raised (record { many = r.many ∙ sym sized.many; tableau = r.tableau; primitive = r.primitive sized.primitive }) c.args.i c.in-Open.column c.exchange.result exact c.exchange.ensures.refusal c.exchange.ensures.calm in search rules

@@ -2,12 +2,16 @@ use Rattle.std.proofs.Common.{rules, ◌≡◌, ◌<◌, ◌+◌, ◌∙◌, ℕ
 use Rattle.std.specs.Prelude.{IfErr}
 use Rattle.std.proofs.lemmas.List.{get_or_read}
 use Rattle.farkas_check.specs.Relations.{entry}
-use Rattle.simplex.specs.CalmStrata.{IsRefusalUnder}
-use Rattle.simplex.specs.Exchange.{numbers_of, exchange, HasShape}
+use Rattle.items.specs.Gives.{Gives}
+use Rattle.simplex.specs.CalmStrata.{IsRefusalUnder, IsLinesStep, lines_choice}
+use Rattle.simplex.specs.SearchSteps.{StopsBy}
+use Rattle.simplex.specs.declared.tableau.Tableau.{Tableau}
+use Rattle.simplex.specs.Exchange.{cause, numbers_of, exchange, HasShape}
 use Rattle.simplex.proofs.CalmSpots.{small_spots}
 use Rattle.simplex.proofs.CalmSteps.{error_under}
 use Rattle.simplex.proofs.Echelons.{spot-exchanged}
 use Rattle.simplex.proofs.Independence.{some_unknown}
+use Rattle.simplex.proofs.Stops.{gives_stop}
 use Rattle.simplex.proofs.spots.with_last.Goals as goal
 
 pub exchange-requires : goal.exchange-requires
@@ -41,3 +45,10 @@ pub returns-in_err-made-in-Some-clause-refusal : goal.returns-in_err-made-in-Som
 returns-in_err-made-in-Some-clause-refusal g c =
     let known : IfErr c.exchange.result (IsRefusalUnder c.args.count c.args.lines.now) =
     error_under c.args.count c.args.lines.now c.exchange.result c.exchange.ensures.refusal (λ calm. c.exchange.ensures.calm 1048576 (omega arith) (small_spots 1048576 c.args.count c.args.lines.now calm c.args.t c.requires.1.0.many c.requires.1.0.tableau c.requires.1.0.primitive)) in search rules
+
+pub returns-in_err-made-in-Some-clause-step : goal.returns-in_err-made-in-Some-clause-step
+returns-in_err-made-in-Some-clause-step g c =
+    let exact : Gives cause (λ (u : Tableau). u) c.exchange.result (exchange c.args.t c.args.line c.in-Some.column) = search rules in
+    let known : IfErr c.exchange.result (StopsBy (IsLinesStep c.args.count c.args.lines.now)) =
+    gives_stop (IsLinesStep c.args.count c.args.lines.now) (λ (u : Tableau). u) c.exchange.result (exchange c.args.t c.args.line c.in-Some.column) exact
+    (λ step e. lines_choice c.args.t c.args.line c.in-Some.column c.requires.1.0 e) in search rules

@@ -1,4 +1,5 @@
 use Rattle.simplex.proofs.CalmSteps.{plain_error, calm_error}
+use Rattle.simplex.proofs.StrataStops.{search_stop}
 use Rattle.simplex.proofs.SmallBases.{over_result}
 use Rattle.simplex.proofs.strata.basis_over.Goals as goal
 
@@ -10,3 +11,6 @@ returns-clause-calm c = λ few calm. calm_error _ c.basis_of.result c.basis_of.e
 
 pub returns-clause-small : goal.returns-clause-small
 returns-clause-small c = over_result _ c.basis_of.result c.basis_of.ensures.small
+
+pub returns-clause-step : goal.returns-clause-step
+returns-clause-step c = search_stop _ c.basis_of.result c.basis_of.ensures.refusal
