@@ -46,12 +46,16 @@ pub record IsCertified (text : List ℕ) (file : Certificate) : Type 0 where
 abbrev pub output_too_long : Reply
 output_too_long = record { status = ended.TooLong; text = codes "output is too long\n" }
 
--- how a file is written, and a newline, where both are within the limit
-abbrev pub file_reply : List ℕ → Reply
-file_reply file = if nat_lt (length file) most_file then record {
+-- how a file is written, and a newline, where both are within a limit
+abbrev pub file_reply_within : ℕ → List ℕ → Reply
+file_reply_within most file = if nat_lt (length file) most then record {
   status = ended.Certified;
   text = file ++ codes "\n";
 } else output_too_long
+
+-- the same within the limit of a certificate file
+abbrev pub file_reply : List ℕ → Reply
+file_reply file = file_reply_within most_file file
 
 -- the text is accepted, and this tells its certificate file
 abbrev pub TellsFile : List ℕ → Reply → Type 0

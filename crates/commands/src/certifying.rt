@@ -1,7 +1,7 @@
 ghost use Rattle.std.specs.Prelude.{◌≡◌, ◌≤◌, length, IfOk, IsUtf8};
 ghost use Rattle.wire.specs.Written.{IsWritable};
 ghost use Rattle.summary_cache.specs.Limits.{most_bytes};
-ghost use Rattle.commands.specs.Certify.{IsFileOf, IsReplyToCertify, TellsFile, file_reply};
+ghost use Rattle.commands.specs.Certify.{IsFileOf, IsReplyToCertify, TellsFile, file_reply_within};
 ghost use Rattle.commands.specs.Within.{OrRefused};
 ghost use Rattle.commands.specs.Stated.{IsAnalysed};
 ghost use Rattle.commands.specs.Status.{IsAnswer};
@@ -54,12 +54,13 @@ fn file_of(
     })
 }
 
-/// The answer that tells a certificate file, with a newline behind it.
-fn file_reply(alloc: Global, file: &[u8]) -> Result<Reply, AllocError>
-    ensures reply { IfOk result (λ reply. reply ≡ file_reply file.now) }
+/// The answer that tells a certificate file, with a newline behind it, where both are at most
+/// `most` bytes; else `output is too long`. The one error is want of memory.
+pub fn file_reply(alloc: Global, file: &[u8], most: usize) -> Result<Reply, AllocError>
+    ensures reply { IfOk result (λ reply. reply ≡ file_reply_within most file.now) }
     ensures status { IfOk result (λ reply. IsAnswer reply.status) }
 {
-    if file.len() >= MOST_FILE {
+    if file.len() >= most {
         return line(alloc, Status::TooLong, b"output is too long\n");
     }
     Ok(Reply {
@@ -78,7 +79,7 @@ fn reply_to_analysed(alloc: Global, text: &[u8], last: Analysed) -> Result<Reply
     let Analysed { report, answers } = last;
     let file = file_of(alloc, text, answers, &report)?;
     let written = write_certificate(alloc, &file)?;
-    file_reply(alloc, written.as_str().as_bytes())
+    file_reply(alloc, written.as_str().as_bytes(), MOST_FILE)
 }
 
 /// The answer to a text.

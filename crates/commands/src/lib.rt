@@ -23,6 +23,8 @@ mod submitting;
 mod text;
 mod words;
 
+pub use certifying::file_reply;
 pub use limits::{MOST_FILE, MOST_INPUT};
+pub use reply::Reply;
 pub use running::run;
 pub use status::Status;

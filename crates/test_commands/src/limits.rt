@@ -1,6 +1,7 @@
 //! Each limit of a text, at its number and one past it.
 
 use crate::worked::{GOOD, ends, run_on};
+use commands::file_reply;
 use std::alloc::Global;
 use std::fmt::Write;
 use std::process::Abort;
@@ -110,6 +111,18 @@ fn limits(rt: HostRuntime) -> Result<(), Fail> {
     for row in LIMITS.lines() {
         check_answer(rt.alloc(), &rt, row)?;
     }
+    Ok(())
+}
+
+// A file and the newline behind it are printed up to a limit, and not past it.
+#[test]
+fn output_at_its_limit(rt: HostRuntime) -> Result<(), Fail> {
+    let told = file_reply(rt.alloc(), b"{\"text\":\"\"}", 12)?;
+    assert_eq!(rt; told.status.code(), 0);
+    assert!(rt; told.text.as_slice() == b"{\"text\":\"\"}\n".as_slice());
+    let told = file_reply(rt.alloc(), b"{\"text\":\"\"}", 11)?;
+    assert_eq!(rt; told.status.code(), 9);
+    assert!(rt; told.text.as_slice() == b"output is too long\n".as_slice());
     Ok(())
 }
 
