@@ -1,0 +1,4 @@
+-- ---- what must be believed
+-- points and passages, and what is kept from point to point
+pub mod Points
+pub mod Induction
