@@ -4,11 +4,16 @@ versions, inputs of `replay`, edit scripts, words and bytes at random. Each run 
 line of `docs/FORMATS.md`, write nothing to standard error, and give the same again. Counts the statuses, and tells what took
 longest.
 
-usage: soup.py PROGRAM [--count N | --seconds S] [--seed K] [--jobs J] [--again N] [--first I]
-       soup.py PROGRAM --show I [--seed K]
+usage: soup.py PROGRAM [--count N | --seconds S] [--seed K] [--kinds LIST] [--jobs J] [--again N] [--first I] [--batch FILE]
+       soup.py PROGRAM --show I [--seed K] [--kinds LIST]
 
-Input I of a seed is the same in each run, whatever the other words are; --show prints its words to standard error and its bytes to
-standard output. --again N runs each Nth input a second time, 0 none. The status is 1 where something was wrong.
+Input I of a seed and of a list of kinds is the same in each run, whatever the other words are; --show prints its words to standard error
+and its bytes to standard output. --again N runs each Nth input a second time, 0 none. The status is 1 where something was wrong.
+
+--kinds takes kinds alone, parted by commas. --batch FILE runs 500 inputs after one another in one process of another program, FILE,
+which calls the same `run` over bytes in memory (`inputs/tried.txt`; a line of it tells how it is built), where starting a process for
+each input would take longer than all else. 500 inputs together then have the ten seconds; where they take longer, or the process ends
+otherwise, each is run by itself. --again then says how many of the batches are run again.
 """
 import argparse, copy, glob, json, os, random, re, signal, sys, time
 from collections import Counter
@@ -18,6 +23,7 @@ from compare_edits import made as edit_script
 from compare_replay import Maker, made as replay_input
 
 LIMIT = 10  # seconds of the processor; a run that takes six times as long by the clock is ended
+BATCH = 500  # inputs after one another in one process
 HERE = os.path.dirname(os.path.abspath(__file__))
 MARKS = "( ) { } ; , = == != < <= > >= + - * / % && || ! ++ -- += -= *= /= %=".split()
 OTHER_MARKS = "[ ] . -> & | ^ ~ << >> ? : ... <<= >>= &= ^= |= # \\ @ $ ` ' \"".split()
@@ -79,8 +85,19 @@ class Runner:
     def __init__(self, program):
         self.program, self.pid = program, 0
         self.files = [os.memfd_create(name) for name in ("given", "made", "told")]
-        self.actions = [(os.POSIX_SPAWN_DUP2, file, number) for number, file in enumerate(self.files)]
         signal.signal(signal.SIGALRM, lambda *_: os.kill(self.pid, signal.SIGKILL))
+
+    def start(self, words):
+        """The number of a process that runs the program on these words, over the files."""
+        if hasattr(os, "posix_spawn"):
+            actions = [(os.POSIX_SPAWN_DUP2, file, number) for number, file in enumerate(self.files)]
+            return os.posix_spawn(self.program, [self.program, *words], {}, file_actions=actions)
+        pid = os.fork()
+        if pid == 0:
+            for number, file in enumerate(self.files):
+                os.dup2(file, number)
+            os.execve(self.program, [self.program, *words], {})
+        return pid
 
     def run(self, words, source):
         """The status, the bytes of standard output and of standard error, and the seconds of the processor."""
@@ -90,7 +107,7 @@ class Runner:
         done = 0
         while done < len(source):
             done += os.pwrite(self.files[0], source[done:], done)
-        self.pid = os.posix_spawn(self.program, [self.program, *words], {}, file_actions=self.actions)
+        self.pid = self.start(words)
         signal.setitimer(signal.ITIMER_REAL, 6 * LIMIT)
         _, ended, used = os.wait4(self.pid, 0)
         signal.setitimer(signal.ITIMER_REAL, 0)
@@ -265,30 +282,34 @@ def random_words(rng):
     return [rng.choice(known) for _ in range(rng.choice([0, 1, 1, 2, 2, 3, 5]))]
 
 
-def given(seed, number, texts, files):
+# Each kind as often as it is taken where none is chosen.
+KINDS = [*["tokens"] * 3, *["statements"] * 3, *["programs"] * 5, "limits", *["files"] * 4, *["replays"] * 2, "words", "bytes", *["scripts"] * 2]
+
+
+def given(options, number, texts, files):
     """The kind of an input, its words and its bytes."""
-    rng = random.Random("%d %d" % (seed, number))
+    rng = random.Random("%d %d" % (options.seed, number))
     of_text = rng.choice([["analyse"], ["analyse"], ["prove"], ["facets"], ["certify"], ["cost", rng.choice(["g", "h", "x", "main"])]])
     of_file = rng.choice([["check"], ["check"], ["renew"]])
-    kind = rng.randrange(22)
-    if kind < 3:
-        return "tokens", of_text, soup(rng)
-    if kind < 6:
-        return "statements", of_text, statements(rng)
-    if kind < 11:
-        return "programs", of_text, mutated_program(rng, texts)
-    if kind < 12:
-        return "limits", of_text, deep(rng)
-    if kind < 16:
-        return "files", of_file, mutated_file(rng, files)
-    if kind < 18:
+    kind = options.kinds[rng.randrange(len(options.kinds))]
+    if kind == "tokens":
+        return kind, of_text, soup(rng)
+    if kind == "statements":
+        return kind, of_text, statements(rng)
+    if kind == "programs":
+        return kind, of_text, mutated_program(rng, texts)
+    if kind == "limits":
+        return kind, of_text, deep(rng)
+    if kind == "files":
+        return kind, of_file, mutated_file(rng, files)
+    if kind == "replays":
         source = replay_input(rng)
-        return "replays", ["replay"], source if rng.random() < 0.5 else mutated_bytes(rng, source)
-    if kind < 19:
-        return "words", random_words(rng), random_bytes(rng)
-    if kind < 20:
-        return "bytes", rng.choice([of_text, of_file, ["replay"], ["edit"]]), random_bytes(rng)
-    return "scripts", ["edit"], mutated_script(rng)
+        return kind, ["replay"], source if rng.random() < 0.5 else mutated_bytes(rng, source)
+    if kind == "words":
+        return kind, random_words(rng), random_bytes(rng)
+    if kind == "bytes":
+        return kind, rng.choice([of_text, of_file, ["replay"], ["edit"]]), random_bytes(rng)
+    return kind, ["edit"], mutated_script(rng)
 
 
 def fault(runner, words, source, again):
@@ -304,22 +325,60 @@ def fault(runner, words, source, again):
     return status, took, wrong
 
 
+def line_of(words, source):
+    """A line of the program that runs one input after the other."""
+    return b" ".join([*(b"x" + word.encode().hex().encode() for word in ["cra", *words]), source.hex().encode()]) + b"\n"
+
+
+def answers_in(made, count):
+    """The status and the output of each input of a batch."""
+    found, at = [], 0
+    for _ in range(count):
+        end = made.index(b"\n", at)
+        status, size = map(int, made[at:end].split())
+        found.append((status, made[end + 1:end + 1 + size]))
+        at = end + 1 + size
+    if at != len(made):
+        raise ValueError("bytes behind the last answer")
+    return found
+
+
+def faults_of_batch(runner, inputs, again):
+    """How each run of a batch ended, how long it took at most, and what was wrong; None where the batch did not end well."""
+    lines = b"".join(line_of(words, source) for _, words, source in inputs)
+    ended, made, told, took = runner.run([], lines)
+    if ended or told or took >= LIMIT:
+        return None
+    same = not again or runner.run([], lines)[1] == made
+    return [(status, took, reason(words, status, output) or (None if same else "other answers when run again"))
+            for (_, words, _), (status, output) in zip(inputs, answers_in(made, len(inputs)))]
+
+
+def faults(options, runners, inputs, numbers):
+    """How each run of some inputs ended, how long it took at most, and what was wrong."""
+    if runners[1]:
+        found = faults_of_batch(runners[1], inputs, options.again and numbers[0] // BATCH % options.again == 0)
+        if found:
+            return found
+    return [fault(runners[0], words, source, options.again and number % options.again == 0) for number, (_, words, source) in zip(numbers, inputs)]
+
+
 def job(options, part, texts, files):
     """What came of one part of the inputs: counts, faults, and those that took longest."""
-    runner = Runner(options.program)
-    counts, faults, slowest = Counter(), [], []
+    runners = Runner(options.program), options.batch and Runner(options.batch)
+    counts, wrongs, slowest, step = Counter(), [], [], BATCH if options.batch else 1
     end = time.time() + options.seconds if options.seconds else None
-    number, last = options.first + part, options.first + options.count
+    number, last = options.first + part * step, options.first + options.count
     while time.time() < end if end else number < last:
-        kind, words, source = given(options.seed, number, texts, files)
-        again = options.again and number % options.again == 0
-        status, took, wrong = fault(runner, words, source, again)
-        counts[kind, words[0] if words and words[0] in DONE else "", status] += 1
-        slowest = sorted([*slowest, (took, number, kind)], reverse=True)[:5]
-        if wrong:
-            faults.append((number, kind, words, wrong))
-        number += options.jobs
-    return counts, faults, slowest
+        numbers = range(number, number + step if end else min(last, number + step))
+        inputs = [given(options, it, texts, files) for it in numbers]
+        for it, (kind, words, _), (status, took, wrong) in zip(numbers, inputs, faults(options, runners, inputs, numbers)):
+            counts[kind, words[0] if words and words[0] in DONE else "", status] += 1
+            if wrong:
+                wrongs.append((it, kind, words, wrong))
+        slowest = sorted([*slowest, (took, it, kind)], reverse=True)[:5]
+        number += options.jobs * step
+    return counts, wrongs, slowest
 
 
 def beginnings(path):
@@ -337,29 +396,34 @@ def beginnings(path):
 def main():
     parser = argparse.ArgumentParser(usage=__doc__.split("usage: ")[1].split("\n\n")[0])
     parser.add_argument("program", type=os.path.abspath)
+    parser.add_argument("--batch", type=os.path.abspath)
+    parser.add_argument("--kinds", type=lambda told: told.split(","), default=KINDS)
     for name, usual in (("count", 1000), ("seconds", 0), ("seed", 1), ("jobs", 1), ("again", 1), ("first", 0), ("show", -1)):
         parser.add_argument("--" + name, type=int, default=usual)
     options = parser.parse_args()
     texts, files = beginnings(options.program)
     if options.show >= 0:
-        _, words, source = given(options.seed, options.show, texts, files)
+        _, words, source = given(options, options.show, texts, files)
         print(words, file=sys.stderr)
         sys.stdout.buffer.write(source)
         return
     begun = time.time()
-    counts, faults, slowest = Counter(), [], []
+    counts, wrongs, slowest = Counter(), [], []
     with ProcessPoolExecutor(options.jobs) as pool:
         for part in [pool.submit(job, options, part, texts, files) for part in range(options.jobs)]:
             more, wrong, slow = part.result()
-            counts, faults, slowest = counts + more, faults + wrong, slowest + slow
+            counts, wrongs, slowest = counts + more, wrongs + wrong, slowest + slow
     for (kind, command, status), count in sorted(counts.items()):
         print("%-10s %-9s status %3d %10d" % (kind, command or "-", status, count))
-    for number, kind, words, wrong in sorted(faults)[:20]:
+    for number, kind, words, wrong in sorted(wrongs)[:20]:
         print("WRONG input %d, %s, %s: %s" % (number, kind, " ".join(words), wrong))
     for took, number, kind in sorted(slowest, reverse=True)[:5]:
-        print("slowest: %.2f s, input %d, %s" % (took, number, kind))
-    print("%d inputs in %.0f s, %d wrong" % (sum(counts.values()), time.time() - begun, len(faults)))
-    sys.exit(1 if faults else 0)
+        if options.batch:
+            print("slowest: %.2f s, the batch that ends with input %d" % (took, number))
+        else:
+            print("slowest: %.2f s, input %d, %s" % (took, number, kind))
+    print("%d inputs in %.0f s, %d wrong" % (sum(counts.values()), time.time() - begun, len(wrongs)))
+    sys.exit(1 if wrongs else 0)
 
 
 if __name__ == "__main__":
