@@ -133,7 +133,7 @@ fn cost_by_last<O: Oracle>(
 {
     match last {
         Ok(last) => {
-            let growth = Growth {
+            let growth = ChangeGrowth {
                 change,
                 rows,
                 last: &last,
@@ -146,7 +146,7 @@ fn cost_by_last<O: Oracle>(
 
 /// The question whether a change grows without end.
 #[derive(Clone, Copy)]
-pub(crate) struct Growth<'a> {
+pub(crate) struct ChangeGrowth<'a> {
     pub(crate) change: &'a Poly,
     /// The rows of the case.
     pub(crate) rows: &'a Items<Row>,
@@ -158,7 +158,7 @@ pub(crate) struct Growth<'a> {
 #[tactic(auto, using(posing::proofs::Following::following), unfolding(crate::specs::Costs::cost_asked))]
 fn cost_asked<O: Oracle>(
     alloc: Global,
-    growth: Growth,
+    growth: ChangeGrowth,
     oracle: &mut O,
     log: &mut Log,
 ) -> Result<Cost, WorkError>
@@ -172,7 +172,7 @@ fn cost_asked<O: Oracle>(
 
 fn first_answer<O: Oracle>(
     alloc: Global,
-    growth: Growth,
+    growth: ChangeGrowth,
     entries: &Items<Row>,
     oracle: &mut O,
     log: &mut Log,
@@ -186,7 +186,7 @@ fn first_answer<O: Oracle>(
 
 fn question_with(
     alloc: Global,
-    growth: Growth,
+    growth: ChangeGrowth,
     entries: &Items<Row>,
 ) -> Result<Question, AllocError>
     ensures { IfOk result (λ question. question
@@ -199,7 +199,7 @@ fn question_with(
 
 fn cost_by_answer<O: Oracle>(
     alloc: Global,
-    growth: Growth,
+    growth: ChangeGrowth,
     entries: Items<Row>,
     answer: Answer,
     oracle: &mut O,
@@ -223,7 +223,7 @@ fn cost_by_answer<O: Oracle>(
 #[tactic(auto, using(posing::proofs::Following::following))]
 fn cost_by_yes<O: Oracle>(
     alloc: Global,
-    growth: Growth,
+    growth: ChangeGrowth,
     entries: Items<Row>,
     by: Items<i128>,
     oracle: &mut O,
@@ -245,7 +245,7 @@ fn kept_part(rows: &Items<Row>, entries: Items<Row>, by: Items<i128>) -> Result<
     Ok(Kept { rows, entries, by })
 }
 
-fn kept_bound(alloc: Global, growth: Growth, kept: Kept) -> Result<Cost, AllocError>
+fn kept_bound(alloc: Global, growth: ChangeGrowth, kept: Kept) -> Result<Cost, AllocError>
     ensures { IfOk result
         (λ made. made ≡ kept_bound growth.entry.change.now.rest growth.entry.last.now kept) }
 {

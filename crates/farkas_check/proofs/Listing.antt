@@ -9,8 +9,8 @@ use Rattle.linear_terms.specs.declared.col.Col.{Col}
 use Rattle.linear_terms.specs.Mono.{mono_cmp}
 use Rattle.linear_terms.specs.MonoOrder.{mono_cmp_total}
 use Rattle.linear_terms.proofs.Order.{mono_tie}
-use Rattle.farkas_check.specs.declared.source.Source.{Source}
-use Rattle.farkas_check.specs.declared.source.Source.TheVariants.{OfCase, OfStratum}
+use Rattle.farkas_check.specs.declared.source.ColumnSource.{ColumnSource}
+use Rattle.farkas_check.specs.declared.source.ColumnSource.TheVariants.{OfCase, OfStratum}
 use Rattle.farkas_check.specs.Columns.{monos_of}
 use Rattle.farkas_check.specs.Points.{ratio_at}
 use Rattle.farkas_check.specs.Ratios.{Fraction, whole}
@@ -20,7 +20,7 @@ use Rattle.farkas_check.proofs.Walks.{IsBefore, IsOrdered, IsOrdered-columns, re
 
 -- ---- order
 
-IsOrdered-source : (source : Source) → IsOrdered (source_columns source)
+IsOrdered-source : (source : ColumnSource) → IsOrdered (source_columns source)
 IsOrdered-source (OfCase rows terms) = IsOrdered-columns (monos_of rows.now terms.now)
 IsOrdered-source (OfStratum cases lower) = IsOrdered-columns (case_monos cases.now lower.now)
 
@@ -75,10 +75,10 @@ next_listed listed cs None (Some m) place o l b e = after_first None m cs o (ap 
 next_listed listed cs (Some last) None place o l b e = last_there cs last b.0 o (l.each b.0 last b.1.1) (let le = l.whole place e in omega (arith, le, b.1.0))
 next_listed listed cs (Some last) (Some m) place o l b e = after_first (Some last) m cs o (second_there cs last m b.0 o (l.each b.0 last b.1.1) (subst (λ p. slice_get cs p ≡ Some m) b.1.0 (l.each place m e)))
 
-behind_next : (listed : List (Option (List Col))) (source : Source) (last next : Option (List Col)) (place : ℕ) → IsListing listed (source_columns source) → IsRightBefore listed last place → slice_get listed place ≡ Some next → IsNext next last (source_columns source)
+behind_next : (listed : List (Option (List Col))) (source : ColumnSource) (last next : Option (List Col)) (place : ℕ) → IsListing listed (source_columns source) → IsRightBefore listed last place → slice_get listed place ≡ Some next → IsNext next last (source_columns source)
 behind_next listed source last next place l b e = next_listed listed (source_columns source) last next place (IsOrdered-source source) l b e
 
-pub behind_read : (listed : List (Option (List Col))) (source : Source) (last next : Option (List Col)) (place : ℕ) → IsListing listed (source_columns source) → IsRightBefore listed last place → place < length listed → next ≡ get_or listed place next → IsNext next last (source_columns source)
+pub behind_read : (listed : List (Option (List Col))) (source : ColumnSource) (last next : Option (List Col)) (place : ℕ) → IsListing listed (source_columns source) → IsRightBefore listed last place → place < length listed → next ≡ get_or listed place next → IsNext next last (source_columns source)
 behind_read listed source last next place l b lt is = behind_next listed source last next place l b (slice_get_read listed (length listed) place next refl lt is)
 
 pub before_first : (listed : List (Option (List Col))) (place : ℕ) → place ≡ 0 → IsRightBefore listed None place
@@ -178,7 +178,7 @@ number_there (c ∷ cs) (r ∷ rs) m zero o e =
     subst (λ x. r ≡ ratio_at (c ∷ cs) (r ∷ rs) x) same (rw (mono_itself c) refl)
 number_there (c ∷ cs) (r ∷ rs) m (suc place) o e = rw (before_each c m cs place o.0 e) (number_there cs rs m place o.1 e)
 
-pub number_at_column : (source : Source) (point : List Fraction) (m : List Col) (place : ℕ) → slice_get (source_columns source) place ≡ Some m → get_or point place (whole (pos 0)) ≡ ratio_at (source_columns source) point m
+pub number_at_column : (source : ColumnSource) (point : List Fraction) (m : List Col) (place : ℕ) → slice_get (source_columns source) place ≡ Some m → get_or point place (whole (pos 0)) ≡ ratio_at (source_columns source) point m
 number_at_column source point m place e = number_there (source_columns source) point m place (IsOrdered-source source) e
 
 pub listed_there : (listed : List (Option (List Col))) (cs : List (List Col)) (m : List Col) (place : ℕ) → IsListing listed cs → slice_get listed place ≡ Some (Some m) → slice_get cs place ≡ Some m

@@ -9,7 +9,7 @@ ghost use Rattle.farkas_check.specs.Listing.{columns_in};
 ghost use Rattle.farkas_check.specs.Walk.{IsNext, IsBlank, IsListing, IsRightBefore, is_after, lesser, multiplied_rows, least_after, least_in_row, least_in_multiplied, least_in_rows, least_in_polys, least_in_cases};
 
 use crate::search::{first_behind, is_after};
-use crate::source::{Columns, LISTED, Source};
+use crate::source::{ColumnSource, Columns, LISTED};
 use crate::{Change, Ratio, Stratum};
 use items::Items;
 use linear_terms::{Mono, Poly, Row};
@@ -17,7 +17,7 @@ use std::alloc::{AllocError, Global};
 
 impl<'a> Columns<'a> {
     #[tactic(auto, using(crate::proofs::Listing::listing))]
-    pub(crate) fn of(source: Source<'a>) -> Columns<'a>
+    pub(crate) fn of(source: ColumnSource<'a>) -> Columns<'a>
         ensures { columns_in result ≡ source_columns source.entry }
     {
         let mut listed = blank::<LISTED>();
@@ -34,7 +34,7 @@ fn blank<const N: usize>() -> [Option<Mono>; N]
 
 /// Puts the first columns in their places, as many as there is room for.
 #[tactic(auto, using(crate::proofs::Listing::listing))]
-fn list_columns(source: &Source<'_>, listed: &mut [Option<Mono>])
+fn list_columns(source: &ColumnSource<'_>, listed: &mut [Option<Mono>])
     requires { IsBlank listed.old }
     ensures { IsListing listed.new (source_columns source.now) }
 {
@@ -134,12 +134,12 @@ fn place_of(listed: &[Option<Mono>], start: usize, column: &Mono) -> Option<usiz
 }
 
 #[tactic(auto, using(crate::proofs::Walks::next_column))]
-fn next_of(source: &Source<'_>, last: &Option<Mono>) -> Option<Mono>
+fn next_of(source: &ColumnSource<'_>, last: &Option<Mono>) -> Option<Mono>
     ensures { IsNext result last.now (source_columns source.now) }
 {
     match source {
-        Source::OfCase(rows, terms) => next_of_case(rows, terms, last),
-        Source::OfStratum(cases, lower) => next_of_stratum(cases, lower, last),
+        ColumnSource::OfCase(rows, terms) => next_of_case(rows, terms, last),
+        ColumnSource::OfStratum(cases, lower) => next_of_stratum(cases, lower, last),
     }
 }
 
@@ -302,14 +302,14 @@ pub fn case_columns(
 ) -> Result<Items<Mono>, AllocError>
     ensures { IfOk result (λ made. made ≡ columns rows.now terms.now) }
 {
-    column_list(alloc, &Columns::of(Source::OfCase(rows, terms)))
+    column_list(alloc, &Columns::of(ColumnSource::OfCase(rows, terms)))
 }
 
 /// The columns that each case of a stratum question has: those of all cases and of the lower terms.
 pub fn stratum_columns(alloc: Global, stratum: &Stratum) -> Result<Items<Mono>, AllocError>
     ensures { IfOk result (λ made. made ≡ stratum_columns stratum.now.cases stratum.now.lower) }
 {
-    let source = Source::OfStratum(stratum.cases(), stratum.lower());
+    let source = ColumnSource::OfStratum(stratum.cases(), stratum.lower());
     column_list(alloc, &Columns::of(source))
 }
 

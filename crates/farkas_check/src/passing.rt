@@ -12,7 +12,7 @@ use crate::kept::{canonicity, positivity};
 use crate::lines::{have_unknowns, is_reduced};
 use crate::multiples::{are_multipliers, constant_sum, has_sum, sums_cancel};
 use crate::points::{meets, meets_slopes, ratio_value, slope_at};
-use crate::source::{Columns, Source};
+use crate::source::{ColumnSource, Columns};
 use crate::stratum::unknown_count;
 use crate::ties::tested_relations;
 use crate::{Answer, Cert, Goal, Limit, Question, Ratio, Relation, Spot, Stratum};
@@ -148,7 +148,7 @@ fn tested_yes(rows: &[Row], by: &[i128]) -> Result<bool, Wide>
     if !are_multipliers(rows, by) {
         return Ok(false);
     }
-    let columns = Columns::of(Source::OfCase(rows, &[]));
+    let columns = Columns::of(ColumnSource::OfCase(rows, &[]));
     let cancel = sums_cancel(rows, &columns, by)?;
     let constant = constant_sum(rows, by)?;
     Ok(cancel && 0 < constant)
@@ -158,7 +158,7 @@ fn tested_yes(rows: &[Row], by: &[i128]) -> Result<bool, Wide>
 fn tested_no(rows: &[Row], point: &[Ratio]) -> Result<bool, Wide>
     ensures { result ≡ tested_no rows.now point.now }
 {
-    let columns = Columns::of(Source::OfCase(rows, &[]));
+    let columns = Columns::of(ColumnSource::OfCase(rows, &[]));
     if !has_length(&columns, point) {
         return Ok(false);
     }
@@ -239,7 +239,7 @@ fn tested_point(goal: &Goal, columns: &Columns<'_>, point: &[Ratio]) -> Result<b
 fn tested_reached(at: &i128, goal: &Goal, point: &[Ratio]) -> Result<bool, Wide>
     ensures { result ≡ tested_reached at.now goal.now point.now }
 {
-    let columns = Columns::of(Source::OfCase(goal.rows.as_slice(), goal.objective.terms()));
+    let columns = Columns::of(ColumnSource::OfCase(goal.rows.as_slice(), goal.objective.terms()));
     if !tested_point(goal, &columns, point)? {
         return Ok(false);
     }
@@ -252,7 +252,10 @@ fn tested_unbounded(goals: &[Goal], case: u32, point: &[Ratio], ray: &[Ratio]) -
 {
     match goals.get(case as usize) {
         Some(goal) => {
-            let columns = Columns::of(Source::OfCase(goal.rows.as_slice(), goal.objective.terms()));
+            let columns = Columns::of(ColumnSource::OfCase(
+                goal.rows.as_slice(),
+                goal.objective.terms(),
+            ));
             if !tested_point(goal, &columns, point)? {
                 return Ok(false);
             }
@@ -289,7 +292,7 @@ fn tested_basis(
 {
     let cases = stratum.cases();
     let lower = stratum.lower();
-    let columns = Columns::of(Source::OfStratum(cases, lower));
+    let columns = Columns::of(ColumnSource::OfStratum(cases, lower));
     if !have_unknowns(relations, cases, lower) {
         return Ok(false);
     }

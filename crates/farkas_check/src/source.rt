@@ -7,7 +7,7 @@ use linear_terms::{Mono, Poly, Row};
 /// Where columns come from: the rows and the terms of a case, or all cases and lower terms of a
 /// stratum question.
 #[derive(Clone, Copy)]
-pub(crate) enum Source<'a> {
+pub(crate) enum ColumnSource<'a> {
     OfCase(&'a [Row], &'a [(Mono, i128)]),
     OfStratum(&'a [Change], &'a [Poly]),
 }
@@ -19,7 +19,7 @@ pub(crate) const LISTED: usize = 64;
 /// going over all terms.
 #[derive(Clone, Copy)]
 pub(crate) struct Columns<'a> {
-    pub(crate) source: Source<'a>,
+    pub(crate) source: ColumnSource<'a>,
     pub(crate) listed: [Option<Mono>; LISTED],
     ghost stand_there: { IsListing listed (source_columns source) },
 }

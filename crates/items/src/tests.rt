@@ -14,10 +14,10 @@ use std::test::Fail;
 
 /// A type that reaches itself through both.
 #[derive(Clone, PartialEq, Eq, PartialOrd, Ord, Hash, Debug, Drop)]
-enum Tree {
+enum NestedTree {
     Leaf(u8),
-    Under(Boxed<Tree>),
-    Fork(Items<Tree>),
+    Under(Boxed<NestedTree>),
+    Fork(Items<NestedTree>),
 }
 
 #[derive(Clone, PartialEq, Eq, Debug, Drop)]
@@ -100,12 +100,12 @@ fn doubles(alloc: Global, numbers: &[u8]) -> Result<Items<u8>, DoubleError>
     Ok(made)
 }
 
-fn fork(alloc: Global, leaves: &[u8]) -> Result<Tree, AllocError> {
+fn fork(alloc: Global, leaves: &[u8]) -> Result<NestedTree, AllocError> {
     let mut all = Items::new(alloc);
     for leaf in leaves {
-        all.push(Tree::Leaf(*leaf))?;
+        all.push(NestedTree::Leaf(*leaf))?;
     }
-    Ok(Tree::Fork(all))
+    Ok(NestedTree::Fork(all))
 }
 
 #[test]
@@ -167,7 +167,7 @@ fn boxes(rt: HostRuntime) -> Result<(), Fail> {
 fn trees_compare_by_content(rt: HostRuntime) -> Result<(), Fail> {
     let small = fork(rt.alloc(), &[1, 2])?;
     assert_eq!(rt; small, small.clone()?);
-    let large = Tree::Under(Boxed::new(rt.alloc(), fork(rt.alloc(), &[1, 3])?)?);
+    let large = NestedTree::Under(Boxed::new(rt.alloc(), fork(rt.alloc(), &[1, 3])?)?);
     assert_ne!(rt; small, large);
     Ok(())
 }

@@ -22,8 +22,8 @@ use Rattle.transition_formula.proofs.ColumnTests.{both, both_true}
 use Rattle.transition_formula.proofs.Fitting.{from_fitting}
 use Rattle.leaf_cases.specs.declared.division.DivisionPart.TheVariants.{Quotient, Remainder}
 use Rattle.leaf_cases.specs.declared.step.Arithmetic.TheVariants.{Negate, Sum, Difference, Product}
-use Rattle.leaf_cases.specs.declared.step.Step.{Step}
-use Rattle.leaf_cases.specs.declared.step.Step.TheVariants.{Value, Divide, Test}
+use Rattle.leaf_cases.specs.declared.step.CaseStep.{CaseStep}
+use Rattle.leaf_cases.specs.declared.step.CaseStep.TheVariants.{Value, Divide, Test}
 use Rattle.leaf_cases.specs.Claims.{Answer, case_with_value}
 use Rattle.leaf_cases.specs.Edges.{arguments_after, arguments_of, no_values}
 use Rattle.leaf_cases.specs.Expression.{Lists, of_test, sign_lists, operator_lists, lists_of}
@@ -49,7 +49,7 @@ unfolding listed.both
 long-both n m firsts seconds h k = each-flat_map (Long n) (Long (n + m)) (λ a. map (beside a) seconds) (λ a s. each-map (Long m) (Long (n + m)) (beside a) (λ b u. long-beside n m a b s u) seconds k) firsts h
 
 -- a step that gives a number
-abbrev GivesNumber : Step → Type 0
+abbrev GivesNumber : CaseStep → Type 0
 GivesNumber (Value arithmetic) = Unit {0}
 GivesNumber (Divide part) = Unit {0}
 GivesNumber (Test relation) = ⊥
@@ -58,7 +58,7 @@ one-valued : (case : Case) (r : Answer) → Long 1 (case_with_value case r)
 one-valued case (Ok p) = refl
 one-valued case (Err e) = refl
 
-one-made : (step : Step) → GivesNumber step → (case : Case) → AllByRecursion (Long 1) (cases_of_step step case)
+one-made : (step : CaseStep) → GivesNumber step → (case : Case) → AllByRecursion (Long 1) (cases_of_step step case)
 one-made (Value arithmetic) g case = (one-valued case (value_at arithmetic (operand 0 case) (operand 1 case)), tt)
 one-made (Divide part) g case = (refl, (refl, (refl, (refl, tt))))
 one-made (Test relation) g case = absurd g
@@ -66,7 +66,7 @@ one-made (Test relation) g case = absurd g
 any-case : (cases : List Case) → AllByRecursion (λ case. Unit {0}) cases
 any-case cases = each-any (λ case. Unit {0}) (λ case. tt) cases
 
-one-stepped : (step : Step) → GivesNumber step → (cases : List Case) → AllByRecursion (Long 1) (cases_by (step ∷ []) cases)
+one-stepped : (step : CaseStep) → GivesNumber step → (cases : List Case) → AllByRecursion (Long 1) (cases_by (step ∷ []) cases)
 unfolding cases_by
 one-stepped step g cases = each-append (Long 1) (flat_map (cases_of_step step) cases) [] (each-flat_map (λ case. Unit {0}) (Long 1) (cases_of_step step) (λ case _. one-made step g case) cases (any-case cases)) tt
 

@@ -31,8 +31,8 @@ use Rattle.leaf_cases.specs.declared.step.Arithmetic.{Arithmetic}
 use Rattle.leaf_cases.specs.declared.step.Arithmetic.TheVariants.{Negate, Sum, Difference, Product}
 use Rattle.leaf_cases.specs.declared.step.TestRelation.{TestRelation}
 use Rattle.leaf_cases.specs.declared.step.TestRelation.TheVariants.{Less, LessOrEqual, Greater, GreaterOrEqual, Same, Negative, Positive, Zero}
-use Rattle.leaf_cases.specs.declared.step.Step.{Step}
-use Rattle.leaf_cases.specs.declared.step.Step.TheVariants.{Value, Divide, Test}
+use Rattle.leaf_cases.specs.declared.step.CaseStep.{CaseStep}
+use Rattle.leaf_cases.specs.declared.step.CaseStep.TheVariants.{Value, Divide, Test}
 use Rattle.leaf_cases.specs.Claims.{Answer, Claim, case_with_claims, rows_of, case_with_value}
 use Rattle.leaf_cases.specs.Division.{all_signs, divisor_sign, dividend_sign, division, equation, lower_bound, minus_one, one, upper_bound}
 use Rattle.leaf_cases.specs.Division as division
@@ -183,7 +183,7 @@ division-fine signs case h =
       (divisor-fine signs.divisor b (operand-fine 1 case h), (dividend-fine signs.dividend a (operand-fine 0 case h), (lower-fine signs.divisor signs.dividend b r (operand-fine 1 case h), (upper-fine signs.divisor signs.dividend b r (operand-fine 1 case h) (column-fine (Aux (case.aux + 1))), tt)))),
     )
 
-made_at-fine : (step : Step) (case : Case) → IsFineCase case → AreFine (cases_of_step step case)
+made_at-fine : (step : CaseStep) (case : Case) → IsFineCase case → AreFine (cases_of_step step case)
 made_at-fine (Value op) case h = (valued-fine case (value_at op (operand 0 case) (operand 1 case)) h.0 (value_at-fine op (operand 0 case) (operand 1 case) (operand-fine 0 case h.1)), tt)
 made_at-fine (Divide part) case h =
     each-map (λ (signs : Signs). Unit {0}) IsFineCase (λ signs. case_with_claims case 2 (division_at signs case) (column_of (Aux (part_at part case.aux)) ∷ []))
@@ -192,10 +192,10 @@ made_at-fine (Divide part) case h =
 made_at-fine (Test relation) case h =
     (limited-fine case 0 (test_claim relation case ∷ []) [] h.0 (test_at-fine relation (operand 0 case) (operand 1 case) (operand-fine 0 case h.1) (operand-fine 1 case h.1), tt) tt, tt)
 
-cases_by-fine : (steps : List Step) (cases : List Case) → AreFine cases → AreFine (cases_by steps cases)
+cases_by-fine : (steps : List CaseStep) (cases : List Case) → AreFine cases → AreFine (cases_by steps cases)
 unfolding cases_by
 cases_by-fine steps cases h =
-    each-flat_map (λ (step : Step). Unit {0}) IsFineCase (λ step. flat_map (cases_of_step step) cases)
+    each-flat_map (λ (step : CaseStep). Unit {0}) IsFineCase (λ step. flat_map (cases_of_step step) cases)
     (λ step any. each-flat_map IsFineCase IsFineCase (cases_of_step step) (made_at-fine step) cases h) steps (each-any (λ step. Unit {0}) (λ step. tt) steps)
 
 -- ---- two cases together
@@ -241,7 +241,7 @@ record AreFineLists (lists : Lists) : Type 0 where
   truth : IsFineList lists.truth
   falsity : IsFineList lists.falsity
 
-by-fine : (steps : List Step) (list : Listed) → IsFineList list → IsFineList (by steps list)
+by-fine : (steps : List CaseStep) (list : Listed) → IsFineList list → IsFineList (by steps list)
 by-fine steps list h = cases_by-fine steps list.cases h
 
 known-fine : (p : Polynomial) → Fine p → IsFineList (one_case p)
@@ -266,7 +266,7 @@ sign-fine Minus inner h = number-fine (by (Value Negate ∷ []) inner.value) (by
 sign-fine Not inner h = test-fine inner.falsity inner.truth h.falsity h.truth
 
 module _ (left right : Lists) (h : AreFineLists left) (k : AreFineLists right) where
-  calculated-fine : (step : Step) → AreFineLists (calculation_lists step left right)
+  calculated-fine : (step : CaseStep) → AreFineLists (calculation_lists step left right)
   calculated-fine step = number-fine (by (step ∷ []) (together left.value right.value)) (by-fine (step ∷ []) (together left.value right.value) (together-fine left.value right.value h.value k.value))
 
   compared-fine : (op : Op) → IsFineList (comparison_list op left right)

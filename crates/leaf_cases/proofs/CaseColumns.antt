@@ -26,8 +26,8 @@ use Rattle.leaf_cases.specs.declared.step.Arithmetic.{Arithmetic}
 use Rattle.leaf_cases.specs.declared.step.Arithmetic.TheVariants.{Negate, Sum, Difference, Product}
 use Rattle.leaf_cases.specs.declared.step.TestRelation.{TestRelation}
 use Rattle.leaf_cases.specs.declared.step.TestRelation.TheVariants.{Less, LessOrEqual, Greater, GreaterOrEqual, Same, Negative, Positive, Zero}
-use Rattle.leaf_cases.specs.declared.step.Step.{Step}
-use Rattle.leaf_cases.specs.declared.step.Step.TheVariants.{Value, Divide, Test}
+use Rattle.leaf_cases.specs.declared.step.CaseStep.{CaseStep}
+use Rattle.leaf_cases.specs.declared.step.CaseStep.TheVariants.{Value, Divide, Test}
 use Rattle.leaf_cases.specs.Claims.{Answer, Claim, rows_of, case_with_claims, case_with_value}
 use Rattle.leaf_cases.specs.Division.{one, minus_one, equation, divisor_sign, dividend_sign, lower_bound, upper_bound, division, all_signs}
 use Rattle.leaf_cases.specs.Listed.{beside}
@@ -212,7 +212,7 @@ module _ (columns : ℕ) where
   part-below Quotient aux = below-true aux (aux + 2) (omega arith)
   part-below Remainder aux = below-true (aux + 1) (aux + 2) (omega arith)
 
-  pub sits-step : (most : ℕ) (step : Step) (case : Case) → Sits columns most case → AllByRecursion (Sits columns (most + 2)) (cases_of_step step case)
+  pub sits-step : (most : ℕ) (step : CaseStep) (case : Case) → Sits columns most case → AllByRecursion (Sits columns (most + 2)) (cases_of_step step case)
   sits-step most (Value arithmetic) case s =
       (sits-valued most case (value_at arithmetic (operand 0 case) (operand 1 case)) s (value-covered (is_below columns (case.aux + 0)) arithmetic (operand 0 case) (operand 1 case) (operand-covered most 0 0 case s) (operand-covered most 0 1 case s)), tt)
   sits-step most (Divide part) case s =
@@ -230,7 +230,7 @@ module _ (columns : ℕ) where
         tt,
       )
 
-  pub sits-cases_by : (most : ℕ) (steps : List Step) (cases : List Case) → AllByRecursion (Sits columns most) cases → AllByRecursion (Sits columns (most + 2)) (cases_by steps cases)
+  pub sits-cases_by : (most : ℕ) (steps : List CaseStep) (cases : List Case) → AllByRecursion (Sits columns most) cases → AllByRecursion (Sits columns (most + 2)) (cases_by steps cases)
   unfolding cases_by
   sits-cases_by most steps cases h =
       each-flat_map (λ step. Unit {0}) (Sits columns (most + 2)) (λ step. flat_map (cases_of_step step) cases)

@@ -7,7 +7,7 @@ use Rattle.linear_terms.specs.Value.{value_of}
 use Rattle.transition_formula.specs.Meaning.{numbers, HoldsSome}
 use Rattle.transition_formula.proofs.Values.{none-of}
 use Rattle.transition_formula.proofs.Meanings.{some-either, some-left, some-right}
-use Rattle.leaf_cases.specs.declared.step.Step.{Step}
+use Rattle.leaf_cases.specs.declared.step.CaseStep.{CaseStep}
 use Rattle.leaf_cases.specs.Expression.{by, one_case, number_cases}
 use Rattle.leaf_cases.specs.Listed.{Listed, together, either}
 use Rattle.leaf_cases.specs.Steps.{losses_by_steps, with_number}
@@ -60,7 +60,7 @@ module _ (columns : ℕ) where
       found e f s z (inl g) = record { one = inl (h.most e s z g) }
       found e f s z (inr g) = record { one = inr (k.most f s z g) }
 
-  pub means-by : (steps : List Step) (a : Listed) (P : List ℤ → List ℤ → Type 0) → Means columns a P → Means columns (by steps a) (Stepped steps P)
+  pub means-by : (steps : List CaseStep) (a : Listed) (P : List ℤ → List ℤ → Type 0) → Means columns a P → Means columns (by steps a) (Stepped steps P)
   means-by steps a P h =
       record {
         bound = h.bound + 2;

@@ -14,8 +14,8 @@ use Rattle.syntax_tree.specs.Term.{Term, Lit, Col, Unary, Binary}
 use Rattle.leaf_cases.specs.declared.division.DivisionPart.TheVariants.{Quotient, Remainder}
 use Rattle.leaf_cases.specs.declared.step.Arithmetic.TheVariants.{Negate, Sum, Difference, Product}
 use Rattle.leaf_cases.specs.declared.step.TestRelation.TheVariants.{Less, LessOrEqual, Greater, GreaterOrEqual, Same, Negative, Positive, Zero}
-use Rattle.leaf_cases.specs.declared.step.Step.{Step}
-use Rattle.leaf_cases.specs.declared.step.Step.TheVariants.{Value, Divide, Test}
+use Rattle.leaf_cases.specs.declared.step.CaseStep.{CaseStep}
+use Rattle.leaf_cases.specs.declared.step.CaseStep.TheVariants.{Value, Divide, Test}
 use Rattle.leaf_cases.specs.Edges.{arguments_after, arguments_of, no_values}
 use Rattle.leaf_cases.specs.Expression.{Lists, of_number, of_test, sign_lists, calculation_lists, comparison_list, operator_lists, lists_of}
 use Rattle.leaf_cases.specs.Listed.{Listed, beside}
@@ -34,17 +34,17 @@ unfolding listed.both
 length-both firsts seconds = flat_count (λ a. map (beside a) seconds) (length seconds) (λ a. length-map seconds (beside a)) firsts
 
 -- how many cases a step makes of one
-abbrev made_count : Step → ℕ
+abbrev made_count : CaseStep → ℕ
 made_count (Value arithmetic) = 1
 made_count (Divide part) = 4
 made_count (Test relation) = 1
 
-length-made : (step : Step) (case : Case) → length (cases_of_step step case) ≡ made_count step
+length-made : (step : CaseStep) (case : Case) → length (cases_of_step step case) ≡ made_count step
 length-made (Value arithmetic) case = refl
 length-made (Divide part) case = refl
 length-made (Test relation) case = refl
 
-one-step : (step : Step) (cases : List Case) → length (cases_by (step ∷ []) cases) ≡ length cases * made_count step
+one-step : (step : CaseStep) (cases : List Case) → length (cases_by (step ∷ []) cases) ≡ length cases * made_count step
 unfolding cases_by
 one-step step cases =
     length-append (flat_map (cases_of_step step) cases) [] ∙ nothing (length (flat_map (cases_of_step step) cases)) ∙ flat_count (cases_of_step step) (made_count step) (length-made step) cases
@@ -52,7 +52,7 @@ one-step step cases =
     nothing : (n : ℕ) → n + 0 ≡ n
     nothing n = omega arith
 
-two-steps : (step other : Step) (cases : List Case) → length (cases_by (step ∷ other ∷ []) cases) ≡ length cases * made_count step + length cases * made_count other
+two-steps : (step other : CaseStep) (cases : List Case) → length (cases_by (step ∷ other ∷ []) cases) ≡ length cases * made_count step + length cases * made_count other
 unfolding cases_by
 two-steps step other cases =
     length-append (flat_map (cases_of_step step) cases) (flat_map (cases_of_step other) cases ++ [])
@@ -100,12 +100,12 @@ module _ (l r : Lists) (a b : Cases) (h : Counted l a) (k : Counted r b) where
   pairs : length (listed.both l.value.cases r.value.cases) ≡ a.value * b.value
   pairs = length-both l.value.cases r.value.cases ∙ (λ i. h.value i * k.value i)
 
-  count-polynomial : (step : Step) → made_count step ≡ 1 → Counted (calculation_lists step l r) (counted.of_number (a.value * b.value))
+  count-polynomial : (step : CaseStep) → made_count step ≡ 1 → Counted (calculation_lists step l r) (counted.of_number (a.value * b.value))
   count-polynomial step one =
       count-number _ (a.value * b.value)
       (one-step step (listed.both l.value.cases r.value.cases) ∙ ap (λ n. length (listed.both l.value.cases r.value.cases) * n) one ∙ times-one (length (listed.both l.value.cases r.value.cases)) (a.value * b.value) pairs)
 
-  count-division : (step : Step) → made_count step ≡ 4 → Counted (calculation_lists step l r) (counted.of_number (4 * (a.value * b.value)))
+  count-division : (step : CaseStep) → made_count step ≡ 4 → Counted (calculation_lists step l r) (counted.of_number (4 * (a.value * b.value)))
   count-division step four =
       count-number _ (4 * (a.value * b.value))
       (one-step step (listed.both l.value.cases r.value.cases) ∙ ap (λ n. length (listed.both l.value.cases r.value.cases) * n) four ∙ times-four (length (listed.both l.value.cases r.value.cases)) (a.value * b.value) pairs)
@@ -113,7 +113,7 @@ module _ (l r : Lists) (a b : Cases) (h : Counted l a) (k : Counted r b) where
       times-four : (n m : ℕ) → n ≡ m → n * 4 ≡ 4 * m
       times-four n m e = omega arith
 
-  one-test : (step : Step) → made_count step ≡ 1 → length (cases_by (step ∷ []) (listed.both l.value.cases r.value.cases)) ≡ a.value * b.value
+  one-test : (step : CaseStep) → made_count step ≡ 1 → length (cases_by (step ∷ []) (listed.both l.value.cases r.value.cases)) ≡ a.value * b.value
   one-test step one =
       one-step step (listed.both l.value.cases r.value.cases) ∙ ap (λ n. length (listed.both l.value.cases r.value.cases) * n) one ∙ times-one (length (listed.both l.value.cases r.value.cases)) (a.value * b.value) pairs
 

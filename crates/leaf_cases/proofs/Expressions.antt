@@ -20,8 +20,8 @@ use Rattle.transition_formula.proofs.Values.{column-value}
 use Rattle.leaf_cases.specs.declared.division.DivisionPart.TheVariants.{Quotient, Remainder}
 use Rattle.leaf_cases.specs.declared.step.Arithmetic.TheVariants.{Negate, Sum, Difference, Product}
 use Rattle.leaf_cases.specs.declared.step.TestRelation.TheVariants.{Negative, Positive, Zero}
-use Rattle.leaf_cases.specs.declared.step.Step.{Step}
-use Rattle.leaf_cases.specs.declared.step.Step.TheVariants.{Value, Divide, Test}
+use Rattle.leaf_cases.specs.declared.step.CaseStep.{CaseStep}
+use Rattle.leaf_cases.specs.declared.step.CaseStep.TheVariants.{Value, Divide, Test}
 use Rattle.leaf_cases.specs.Expression.{Lists, by, one_case, number_cases, of_number, of_test, sign_lists, calculation_lists, comparison_list, comparison, opposite, tests_of, operator_lists, lists_of}
 use Rattle.leaf_cases.specs.Listed.{Listed, together, either}
 use Rattle.leaf_cases.proofs.StepCases.{Stepped, Numbered, SomeGives, constant-value}
@@ -289,7 +289,7 @@ record Answers (op : Op) (x y : ℤ) (z : List ℤ) : Type 0 where
   is : result_of op x y ≡ Some number
   only : z ≡ number ∷ []
 
-record Calculates (op : Op) (step : Step) : Type 0 where
+record Calculates (op : Op) (step : CaseStep) : Type 0 where
   early : (x : ℤ) → early_value op x ≡ None
   answers : (x y : ℤ) (z : List ℤ) → StepGives step x y z → Answers op x y z
   gives : (x y : ℤ) (z : List ℤ) → Answers op x y z → StepGives step x y z
@@ -621,7 +621,7 @@ module _ (columns : ℕ) (l r : Term) (L R : Lists) (h : MeansAll columns l L) (
   pair_of : (s : List ℤ) (x y : ℤ) → value_of l s ≡ Some x → value_of r s ≡ Some y → Both (ValueIs l) (ValueIs r) s (x ∷ y ∷ [])
   pair_of s x y f g = record { first = x ∷ []; second = y ∷ []; left = record { number = x; value = f; is = refl }; right = record { number = y; value = g; is = refl }; joined = refl }
 
-  calculated-means : (op : Op) (step : Step) → Calculates op step → MeansAll columns (Binary op l r) (calculation_lists step L R)
+  calculated-means : (op : Op) (step : CaseStep) → Calculates op step → MeansAll columns (Binary op l r) (calculation_lists step L R)
   calculated-means op step does =
       number-means columns (Binary op l r) (by (step ∷ []) (together L.value R.value))
       (means-as columns (by (step ∷ []) (together L.value R.value)) (Stepped (step ∷ []) (Both (ValueIs l) (ValueIs r))) (ValueIs (Binary op l r)) (means-by columns (step ∷ []) (together L.value R.value) (Both (ValueIs l) (ValueIs r)) pairs-mean) there back)

@@ -22,8 +22,8 @@ use Rattle.leaf_cases.specs.declared.expression.Sought.{Sought}
 use Rattle.leaf_cases.specs.declared.expression.Sought.TheVariants as sought
 use Rattle.leaf_cases.specs.declared.step.Arithmetic.TheVariants.{Negate, Sum, Difference, Product}
 use Rattle.leaf_cases.specs.declared.step.TestRelation.TheVariants.{Negative, Positive, Zero}
-use Rattle.leaf_cases.specs.declared.step.Step.{Step}
-use Rattle.leaf_cases.specs.declared.step.Step.TheVariants.{Value, Divide, Test}
+use Rattle.leaf_cases.specs.declared.step.CaseStep.{CaseStep}
+use Rattle.leaf_cases.specs.declared.step.CaseStep.TheVariants.{Value, Divide, Test}
 use Rattle.leaf_cases.specs.Expression.{Lists, of_number, of_test, sign_lists, calculation_lists, comparison_list, comparison, opposite, tests_of, operator_lists, lists_of, sought_in, one_case}
 use Rattle.leaf_cases.specs.Listed.{Listed, AreFew, AreReady, is_ready}
 use Rattle.leaf_cases.specs.Listed as listed
@@ -71,7 +71,7 @@ module _ (columns : ℕ) where
   sit-sign n Not inner s = sit-test (n + 2) inner.falsity inner.truth s.falsity s.truth
 
   module _ (j k : ℕ) (l r : Lists) (s : SitLists columns j l) (u : SitLists columns k r) where
-    sit-calculated : (step : Step) → SitLists columns (j + k + 4) (calculation_lists step l r)
+    sit-calculated : (step : CaseStep) → SitLists columns (j + k + 4) (calculation_lists step l r)
     sit-calculated step =
         sit-more (j + k + 2) (j + k + 4) (omega arith) (calculation_lists step l r)
         (sit-number (j + k + 2) _ (sits-cases_by columns (j + k) (step ∷ []) (listed.both l.value.cases r.value.cases) (sits-both columns j k l.value.cases r.value.cases s.value u.value)))
@@ -178,7 +178,7 @@ found_few e s made cases few is same =
     let width = width_of e in
     subst (AreFew (2 ^ 31)) (sym (same ∙ is)) (are_few width.0 (4 * operators_of e + 2) (2 ^ 31) (omega arith) (sought_in s (lists_of e)).cases (sought-sits width.0 e width.1 s))
 
-pub stepped_few : (e : Term) (steps : List Step) (slice cases made : List Case) → operators_of e ≤ 200001 → cases ≡ (lists_of e).value.cases → slice ≡ cases → made ≡ cases_by steps slice → AreFew (2 ^ 31) made
+pub stepped_few : (e : Term) (steps : List CaseStep) (slice cases made : List Case) → operators_of e ≤ 200001 → cases ≡ (lists_of e).value.cases → slice ≡ cases → made ≡ cases_by steps slice → AreFew (2 ^ 31) made
 stepped_few e steps slice cases made few is same stepped =
     let width = width_of e in
     let all = cases_by steps (lists_of e).value.cases in
@@ -200,7 +200,7 @@ module _ (l r : Term) (few_left : operators_of l ≤ 200001) (few_right : operat
   pairs_few made cases is same =
       subst (AreFew (2 ^ 31)) (sym (same ∙ is)) (are_few width (4 * operators_of l + 4 * operators_of r) (2 ^ 31) (omega arith) (listed.both (lists_of l).value.cases (lists_of r).value.cases) pairs-sit)
 
-  pub calculated_few : (step : Step) (slice cases made : List Case) → cases ≡ listed.both (lists_of l).value.cases (lists_of r).value.cases → slice ≡ cases → made ≡ cases_by (step ∷ []) slice → AreFew (2 ^ 31) made
+  pub calculated_few : (step : CaseStep) (slice cases made : List Case) → cases ≡ listed.both (lists_of l).value.cases (lists_of r).value.cases → slice ≡ cases → made ≡ cases_by (step ∷ []) slice → AreFew (2 ^ 31) made
   calculated_few step slice cases made is same stepped =
       let pairs = listed.both (lists_of l).value.cases (lists_of r).value.cases in
       subst (AreFew (2 ^ 31)) (sym (stepped ∙ ap (cases_by (step ∷ [])) (same ∙ is)))

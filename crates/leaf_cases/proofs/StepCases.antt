@@ -20,8 +20,8 @@ use Rattle.leaf_cases.specs.declared.division.DivisionPart.TheVariants.{Quotient
 use Rattle.leaf_cases.specs.declared.division.Signs.{Signs}
 use Rattle.leaf_cases.specs.declared.step.Arithmetic.{Arithmetic}
 use Rattle.leaf_cases.specs.declared.step.TestRelation.{TestRelation}
-use Rattle.leaf_cases.specs.declared.step.Step.{Step}
-use Rattle.leaf_cases.specs.declared.step.Step.TheVariants.{Value, Divide, Test}
+use Rattle.leaf_cases.specs.declared.step.CaseStep.{CaseStep}
+use Rattle.leaf_cases.specs.declared.step.CaseStep.TheVariants.{Value, Divide, Test}
 use Rattle.leaf_cases.specs.Claims.{Answer, Claim, rows_of, claim_losses, case_with_claims, case_with_value}
 use Rattle.leaf_cases.specs.Division.{all_signs}
 use Rattle.leaf_cases.specs.Steps as steps
@@ -49,7 +49,7 @@ one-value : (w : Valuation) (p : Polynomial) (z : ℤ) → value_of w p ≡ z �
 one-value w p z e = λ i. e i ∷ []
 
 -- what a step makes of a case holds of numbers that it gives from those of the case
-pub record From (case : Case) (step : Step) (s y : List ℤ) : Type 0 where
+pub record From (case : Case) (step : CaseStep) (s y : List ℤ) : Type 0 where
   pub numbers_are : List ℤ
   pub holds : HoldsCase case s numbers_are
   pub gives : StepGives step (first_of numbers_are) (second_of numbers_are) y
@@ -120,7 +120,7 @@ module _ (columns most : ℕ) (case : Case) (sits : Sits columns most case) (s x
   place-signs f y false true k = inr (inr (inl k))
   place-signs f y false false k = inr (inr (inr (inl k)))
 
-  pub step-holds : (step : Step) (y : List ℤ) → StepGives step (first_of x) (second_of x) y → HoldsSome (cases_of_step step case) s y
+  pub step-holds : (step : CaseStep) (y : List ℤ) → StepGives step (first_of x) (second_of x) y → HoldsSome (cases_of_step step case) s y
   step-holds (Value arithmetic) y e = inl (value-holds arithmetic y e)
   step-holds (Test relation) y e = inl (test-holds relation y e)
   step-holds (Divide part) y (some, e) =
@@ -175,7 +175,7 @@ module _ (case : Case) (s y : List ℤ) where
       part_is Quotient a b q r w e f is = e ∙ is.quotient
       part_is Remainder a b q r w e f is = f ∙ is.remainder
 
-  pub step-held : (step : Step) → losses_at step case ≡ [] → HoldsSome (cases_of_step step case) s y → From case step s y
+  pub step-held : (step : CaseStep) → losses_at step case ≡ [] → HoldsSome (cases_of_step step case) s y → From case step s y
   step-held (Value arithmetic) none (inl h) = value-held arithmetic none h
   step-held (Value arithmetic) none (inr h) = absurd h
   step-held (Test relation) none (inl h) = test-held relation none h
@@ -198,34 +198,34 @@ module _ (case : Case) (s y : List ℤ) where
 
 -- ---- lists of cases and of steps
 
-abbrev pub SomeGives : List Step → ℤ → ℤ → List ℤ → Type 0
+abbrev pub SomeGives : List CaseStep → ℤ → ℤ → List ℤ → Type 0
 SomeGives [] a b y = ⊥
 SomeGives (step ∷ more) a b y = StepGives step a b y ⊎ SomeGives more a b y
 
 -- numbers of which one of the cases holds, and from which one of the steps gives y
-pub record Stepped (all : List Step) (P : List ℤ → List ℤ → Type 0) (s y : List ℤ) : Type 0 where
+pub record Stepped (all : List CaseStep) (P : List ℤ → List ℤ → Type 0) (s y : List ℤ) : Type 0 where
   pub numbers_are : List ℤ
   pub holds : P s numbers_are
   pub gives : SomeGives all (first_of numbers_are) (second_of numbers_are) y
 
-each-holds : (columns most : ℕ) (step : Step) (cases : List Case) → AllByRecursion (Sits columns most) cases → (s x y : List ℤ) → HoldsSome cases s x → StepGives step (first_of x) (second_of x) y → HoldsSome (flat_map (cases_of_step step) cases) s y
+each-holds : (columns most : ℕ) (step : CaseStep) (cases : List Case) → AllByRecursion (Sits columns most) cases → (s x y : List ℤ) → HoldsSome cases s x → StepGives step (first_of x) (second_of x) y → HoldsSome (flat_map (cases_of_step step) cases) s y
 each-holds columns most step [] sits s x y h k = absurd h
 each-holds columns most step (case ∷ cases) sits s x y (inl h) k = some-left (cases_of_step step case) (flat_map (cases_of_step step) cases) s y (step-holds columns most case sits.0 s x h step y k)
 each-holds columns most step (case ∷ cases) sits s x y (inr h) k = some-right (cases_of_step step case) (flat_map (cases_of_step step) cases) s y (each-holds columns most step cases sits.1 s x y h k)
 
-pub steps-hold : (columns most : ℕ) (all : List Step) (cases : List Case) → AllByRecursion (Sits columns most) cases → (s x y : List ℤ) → HoldsSome cases s x → SomeGives all (first_of x) (second_of x) y → HoldsSome (steps.cases_by all cases) s y
+pub steps-hold : (columns most : ℕ) (all : List CaseStep) (cases : List Case) → AllByRecursion (Sits columns most) cases → (s x y : List ℤ) → HoldsSome cases s x → SomeGives all (first_of x) (second_of x) y → HoldsSome (steps.cases_by all cases) s y
 unfolding steps.cases_by
 steps-hold columns most [] cases sits s x y h k = absurd k
 steps-hold columns most (step ∷ more) cases sits s x y h (inl k) = some-left (flat_map (cases_of_step step) cases) (flat_map (λ step. flat_map (cases_of_step step) cases) more) s y (each-holds columns most step cases sits s x y h k)
 steps-hold columns most (step ∷ more) cases sits s x y h (inr k) = some-right (flat_map (cases_of_step step) cases) (flat_map (λ step. flat_map (cases_of_step step) cases) more) s y (steps-hold columns most more cases sits s x y h k)
 
 -- numbers of which one of the cases holds, and from which the step gives y
-record FromSome (cases : List Case) (step : Step) (s y : List ℤ) : Type 0 where
+record FromSome (cases : List Case) (step : CaseStep) (s y : List ℤ) : Type 0 where
   numbers_are : List ℤ
   holds : HoldsSome cases s numbers_are
   gives : StepGives step (first_of numbers_are) (second_of numbers_are) y
 
-each-held : (step : Step) (cases : List Case) (s y : List ℤ) → flat_map (losses_at step) cases ≡ [] → HoldsSome (flat_map (cases_of_step step) cases) s y → FromSome cases step s y
+each-held : (step : CaseStep) (cases : List Case) (s y : List ℤ) → flat_map (losses_at step) cases ≡ [] → HoldsSome (flat_map (cases_of_step step) cases) s y → FromSome cases step s y
 each-held step [] s y none h = absurd h
 each-held step (case ∷ cases) s y none h =
     let parts = none-of (losses_at step case) (flat_map (losses_at step) cases) none in
@@ -235,7 +235,7 @@ each-held step (case ∷ cases) s y none h =
     go n (inl k) ih = let one = step-held case s y step n k in record { numbers_are = one.numbers_are; holds = inl one.holds; gives = one.gives }
     go n (inr k) ih = let one = ih k in record { numbers_are = one.numbers_are; holds = inr one.holds; gives = one.gives }
 
-pub steps-held : (all : List Step) (cases : List Case) (s y : List ℤ) → steps.losses_by_steps all cases ≡ [] → HoldsSome (steps.cases_by all cases) s y → Stepped all (HoldsSome cases) s y
+pub steps-held : (all : List CaseStep) (cases : List Case) (s y : List ℤ) → steps.losses_by_steps all cases ≡ [] → HoldsSome (steps.cases_by all cases) s y → Stepped all (HoldsSome cases) s y
 unfolding steps.cases_by steps.losses_by_steps
 steps-held [] cases s y none h = absurd h
 steps-held (step ∷ more) cases s y none h =

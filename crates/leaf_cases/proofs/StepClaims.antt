@@ -23,8 +23,8 @@ use Rattle.leaf_cases.specs.declared.step.Arithmetic.{Arithmetic}
 use Rattle.leaf_cases.specs.declared.step.Arithmetic.TheVariants.{Negate, Sum, Difference, Product}
 use Rattle.leaf_cases.specs.declared.step.TestRelation.{TestRelation}
 use Rattle.leaf_cases.specs.declared.step.TestRelation.TheVariants.{Less, LessOrEqual, Greater, GreaterOrEqual, Same, Negative, Positive, Zero}
-use Rattle.leaf_cases.specs.declared.step.Step.{Step}
-use Rattle.leaf_cases.specs.declared.step.Step.TheVariants.{Value, Divide, Test}
+use Rattle.leaf_cases.specs.declared.step.CaseStep.{CaseStep}
+use Rattle.leaf_cases.specs.declared.step.CaseStep.TheVariants.{Value, Divide, Test}
 use Rattle.leaf_cases.specs.Claims.{Answer, Claim, rows_of, claim_losses}
 use Rattle.leaf_cases.specs.Division.{one, minus_one, equation, divisor_sign, dividend_sign, lower_bound, upper_bound, division}
 use Rattle.leaf_cases.specs.Steps.{one_more, operand, value_at, test_at, kind_of}
@@ -140,7 +140,7 @@ abbrev pub part_number : DivisionPart → ℤ → ℤ → ℤ
 part_number Quotient a b = int_div a b
 part_number Remainder a b = a -ℤ (int_div a b *ℤ b)
 
-abbrev pub StepGives : Step → ℤ → ℤ → List ℤ → Type 0
+abbrev pub StepGives : CaseStep → ℤ → ℤ → List ℤ → Type 0
 StepGives (Value arithmetic) a b y = y ≡ calculated_number arithmetic a b ∷ []
 StepGives (Divide part) a b y = (b ≢ pos 0) × (y ≡ part_number part a b ∷ [])
 StepGives (Test relation) a b y = IsWithin (kind_of relation) (tested_number relation a b) × (y ≡ [])

@@ -13,8 +13,8 @@ use Rattle.leaf_cases.specs.declared.expression.Sought.{Sought}
 use Rattle.leaf_cases.specs.declared.expression.Sought.TheVariants as sought
 use Rattle.leaf_cases.specs.declared.step.Arithmetic.TheVariants.{Negate, Sum, Difference, Product}
 use Rattle.leaf_cases.specs.declared.step.TestRelation.TheVariants.{Less, LessOrEqual, Greater, GreaterOrEqual, Same, Negative, Positive, Zero}
-use Rattle.leaf_cases.specs.declared.step.Step.{Step}
-use Rattle.leaf_cases.specs.declared.step.Step.TheVariants.{Value, Divide, Test}
+use Rattle.leaf_cases.specs.declared.step.CaseStep.{CaseStep}
+use Rattle.leaf_cases.specs.declared.step.CaseStep.TheVariants.{Value, Divide, Test}
 use Rattle.leaf_cases.specs.Listed.{Listed, together, either}
 use Rattle.leaf_cases.specs.Steps.{cases_by, losses_by_steps, with_number}
 
@@ -25,7 +25,7 @@ pub record Lists : Type 0 where
   pub falsity : Listed
 
 -- the steps at each case of a list
-abbrev pub by : List Step → Listed → Listed
+abbrev pub by : List CaseStep → Listed → Listed
 by steps list = record {
   cases = cases_by steps list.cases;
   lost = list.lost ++ losses_by_steps steps list.cases;
@@ -64,11 +64,11 @@ sign_lists Minus inner = of_number (by (Value Negate ∷ []) inner.value)
 sign_lists Not inner = of_test inner.falsity inner.truth
 
 -- by a step at each pair of values
-abbrev pub calculation_lists : Step → Lists → Lists → Lists
+abbrev pub calculation_lists : CaseStep → Lists → Lists → Lists
 calculation_lists step left right = of_number (by (step ∷ []) (together left.value right.value))
 
 -- what a comparison says of its operands: one of these
-abbrev pub tests_of : Op → List Step
+abbrev pub tests_of : Op → List CaseStep
 tests_of Lt = Test Less ∷ []
 tests_of Le = Test LessOrEqual ∷ []
 tests_of Gt = Test Greater ∷ []

@@ -17,8 +17,8 @@ use Rattle.leaf_cases.specs.declared.step.Arithmetic.{Arithmetic}
 use Rattle.leaf_cases.specs.declared.step.Arithmetic.TheVariants.{Negate, Sum, Difference, Product}
 use Rattle.leaf_cases.specs.declared.step.TestRelation.{TestRelation}
 use Rattle.leaf_cases.specs.declared.step.TestRelation.TheVariants.{Less, LessOrEqual, Greater, GreaterOrEqual, Same, Negative, Positive, Zero}
-use Rattle.leaf_cases.specs.declared.step.Step.{Step}
-use Rattle.leaf_cases.specs.declared.step.Step.TheVariants.{Value, Divide, Test}
+use Rattle.leaf_cases.specs.declared.step.CaseStep.{CaseStep}
+use Rattle.leaf_cases.specs.declared.step.CaseStep.TheVariants.{Value, Divide, Test}
 use Rattle.leaf_cases.specs.Claims.{Answer, Claim, case_with_claims, claim_losses, case_with_value}
 use Rattle.leaf_cases.specs.Division.{zero, one, minus_one, division, all_signs}
 
@@ -73,7 +73,7 @@ test_claim relation case = record {
 }
 
 -- the cases that a step makes of one
-abbrev pub cases_of_step : Step → Case → List Case
+abbrev pub cases_of_step : CaseStep → Case → List Case
 cases_of_step (Value arithmetic) case =
     case_with_value case (value_at arithmetic (operand 0 case) (operand 1 case)) ∷ []
 cases_of_step (Divide part) case =
@@ -82,7 +82,7 @@ cases_of_step (Divide part) case =
 cases_of_step (Test relation) case = case_with_claims case 0 (test_claim relation case ∷ []) [] ∷ []
 
 -- what is lost where a step is made at one case, in order
-abbrev pub losses_at : Step → Case → List Loss
+abbrev pub losses_at : CaseStep → Case → List Loss
 losses_at (Value arithmetic) case = losses_of (value_at arithmetic (operand 0 case) (operand 1 case))
 losses_at (Divide part) case = flat_map (λ signs. claim_losses (division_at signs case)) all_signs
 losses_at (Test relation) case = claim_losses (test_claim relation case ∷ [])
@@ -92,9 +92,9 @@ abbrev pub with_number : ℤ → Case → Case
 with_number value case = case_with_claims case 0 [] (constant_of value ∷ [])
 
 -- a step at each case, one step after another
-unfoldable pub cases_by : List Step → List Case → List Case
+unfoldable pub cases_by : List CaseStep → List Case → List Case
 cases_by steps cases = flat_map (λ step. flat_map (cases_of_step step) cases) steps
 
 -- what is lost where steps are made at each case, one step after another
-unfoldable pub losses_by_steps : List Step → List Case → List Loss
+unfoldable pub losses_by_steps : List CaseStep → List Case → List Loss
 losses_by_steps steps cases = flat_map (λ step. flat_map (losses_at step) cases) steps

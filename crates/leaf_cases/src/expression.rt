@@ -8,7 +8,7 @@ ghost use Rattle.leaf_cases.specs.Expression.{one_case, of_number, lists_of, sig
 
 use crate::division::DivisionPart;
 use crate::listed::both;
-use crate::step::{Arithmetic, Step, TestRelation, cases_by, push_number_cases};
+use crate::step::{Arithmetic, CaseStep, TestRelation, cases_by, push_number_cases};
 use items::Items;
 use linear_terms::{Case, Col, Poly};
 use std::alloc::Global;
@@ -23,25 +23,25 @@ pub(crate) enum Sought {
     Falsity,
 }
 
-const SUM: Step = Step::Value(Arithmetic::Sum);
+const SUM: CaseStep = CaseStep::Value(Arithmetic::Sum);
 
-const DIFFERENCE: Step = Step::Value(Arithmetic::Difference);
+const DIFFERENCE: CaseStep = CaseStep::Value(Arithmetic::Difference);
 
-const PRODUCT: Step = Step::Value(Arithmetic::Product);
+const PRODUCT: CaseStep = CaseStep::Value(Arithmetic::Product);
 
-const QUOTIENT: Step = Step::Divide(DivisionPart::Quotient);
+const QUOTIENT: CaseStep = CaseStep::Divide(DivisionPart::Quotient);
 
-const REMAINDER: Step = Step::Divide(DivisionPart::Remainder);
+const REMAINDER: CaseStep = CaseStep::Divide(DivisionPart::Remainder);
 
-const LESS: Step = Step::Test(TestRelation::Less);
+const LESS: CaseStep = CaseStep::Test(TestRelation::Less);
 
-const LESS_OR_EQUAL: Step = Step::Test(TestRelation::LessOrEqual);
+const LESS_OR_EQUAL: CaseStep = CaseStep::Test(TestRelation::LessOrEqual);
 
-const GREATER: Step = Step::Test(TestRelation::Greater);
+const GREATER: CaseStep = CaseStep::Test(TestRelation::Greater);
 
-const GREATER_OR_EQUAL: Step = Step::Test(TestRelation::GreaterOrEqual);
+const GREATER_OR_EQUAL: CaseStep = CaseStep::Test(TestRelation::GreaterOrEqual);
 
-const SAME: Step = Step::Test(TestRelation::Same);
+const SAME: CaseStep = CaseStep::Test(TestRelation::Same);
 
 /// The cases of an expression's value, of its truth or of its falsity. What is lost on the way is
 /// noted.
@@ -107,13 +107,13 @@ fn number_cases(
         Sought::Value => Ok(values),
         Sought::Truth => {
             let steps = [
-                Step::Test(TestRelation::Negative),
-                Step::Test(TestRelation::Positive),
+                CaseStep::Test(TestRelation::Negative),
+                CaseStep::Test(TestRelation::Positive),
             ];
             cases_by(alloc, &steps, values.as_slice(), losses)
         }
         Sought::Falsity => {
-            let steps = [Step::Test(TestRelation::Zero)];
+            let steps = [CaseStep::Test(TestRelation::Zero)];
             cases_by(alloc, &steps, values.as_slice(), losses)
         }
     }
@@ -153,7 +153,7 @@ fn sign_cases(
         }
         Sign::Minus => {
             let values = cases_of(alloc, inner, Sought::Value, losses)?;
-            let steps = [Step::Value(Arithmetic::Negate)];
+            let steps = [CaseStep::Value(Arithmetic::Negate)];
             let turned = cases_by(alloc, &steps, values.as_slice(), losses)?;
             number_cases(alloc, turned, sought, losses)
         }
@@ -210,7 +210,7 @@ fn operator_cases(
 #[cycle(expression)]
 fn calculation_cases(
     alloc: Global,
-    step: Step,
+    step: CaseStep,
     left: &Core,
     right: &Core,
     sought: Sought,

@@ -40,7 +40,7 @@ pub(crate) enum TestRelation {
 
 /// What is made of a case of the values of operands.
 #[derive(Clone, Copy)]
-pub(crate) enum Step {
+pub(crate) enum CaseStep {
     Value(Arithmetic),
     Divide(DivisionPart),
     Test(TestRelation),
@@ -50,7 +50,7 @@ pub(crate) enum Step {
 #[tactic(auto, unfolding(crate::specs::Steps::cases_by, crate::specs::Steps::losses_by_steps))]
 pub(crate) fn cases_by(
     alloc: Global,
-    steps: &[Step],
+    steps: &[CaseStep],
     cases: &[Case],
     losses: &mut Items<Loss>,
 ) -> Result<Items<Case>, FormulaError>
@@ -68,7 +68,7 @@ pub(crate) fn cases_by(
 /// What a step makes of each case, behind what is made.
 fn push_each(
     alloc: Global,
-    step: Step,
+    step: CaseStep,
     cases: &[Case],
     made: &mut Items<Case>,
     losses: &mut Items<Loss>,
@@ -86,7 +86,7 @@ fn push_each(
 /// What a step makes of one case, behind what is made.
 fn push_made(
     alloc: Global,
-    step: Step,
+    step: CaseStep,
     case: &Case,
     made: &mut Items<Case>,
     losses: &mut Items<Loss>,
@@ -96,12 +96,12 @@ fn push_made(
     ensures noted { OnOk result (losses.new ≡ losses.old ++ losses_at step case.now) }
 {
     match step {
-        Step::Value(arithmetic) => {
+        CaseStep::Value(arithmetic) => {
             made.push(case_with_arithmetic(alloc, arithmetic, case, losses)?)?;
             Ok(())
         }
-        Step::Divide(part) => push_divided(alloc, part, case, made, losses),
-        Step::Test(relation) => {
+        CaseStep::Divide(part) => push_divided(alloc, part, case, made, losses),
+        CaseStep::Test(relation) => {
             made.push(case_with_test(alloc, relation, case, losses)?)?;
             Ok(())
         }
@@ -223,8 +223,8 @@ fn push_divided(
     losses: &mut Items<Loss>,
 ) -> Result<(), FormulaError>
     requires { case.now.aux < 2 ^ 31 }
-    ensures made { OnOk result (made.new ≡ made.old ++ cases_of_step (Step.Divide part) case.now) }
-    ensures noted { OnOk result (losses.new ≡ losses.old ++ losses_at (Step.Divide part) case.now) }
+    ensures made { OnOk result (made.new ≡ made.old ++ cases_of_step (CaseStep.Divide part) case.now) }
+    ensures noted { OnOk result (losses.new ≡ losses.old ++ losses_at (CaseStep.Divide part) case.now) }
 {
     made.push(case_with_division(alloc, part, case, true, true, losses)?)?;
     made.push(case_with_division(alloc, part, case, true, false, losses)?)?;

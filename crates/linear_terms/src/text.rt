@@ -52,12 +52,12 @@ impl fmt::Display for Factors<'_> {
 
 /// The sign of a term, which is the first or not.
 #[derive(Drop)]
-struct Sign {
+struct TermSign {
     first: bool,
     negative: bool,
 }
 
-impl fmt::Display for Sign {
+impl fmt::Display for TermSign {
     ghost output = { λ s. Some (sign_text s.first s.negative) };
 
     fn fmt<W: fmt::Write>(&self, f: &mut fmt::Formatter<W>) -> fmt::Result {
@@ -72,19 +72,19 @@ impl fmt::Display for Sign {
 
 /// A term: whether it is the first, its columns and its number, which is not zero.
 #[derive(Drop)]
-struct Term<'a> {
+struct SignedTerm<'a> {
     first: bool,
     mono: &'a Mono,
     number: i128,
 }
 
-impl fmt::Display for Term<'_> {
+impl fmt::Display for SignedTerm<'_> {
     ghost output = { λ t. Some (term_text plain_name t.first (t.mono.now, t.number)) };
 
     fn fmt<W: fmt::Write>(&self, f: &mut fmt::Formatter<W>) -> fmt::Result {
         let mono = self.mono;
         let size = self.number.unsigned_abs();
-        let sign = Sign {
+        let sign = TermSign {
             first: self.first,
             negative: self.number < 0,
         };
@@ -108,7 +108,7 @@ impl fmt::Display for Constant {
 
     fn fmt<W: fmt::Write>(&self, f: &mut fmt::Formatter<W>) -> fmt::Result {
         let size = self.number.unsigned_abs();
-        let sign = Sign {
+        let sign = TermSign {
             first: self.first,
             negative: self.number < 0,
         };
@@ -125,7 +125,7 @@ impl fmt::Display for Terms<'_> {
 
     fn fmt<W: fmt::Write>(&self, f: &mut fmt::Formatter<W>) -> fmt::Result {
         for (mono, number) in self.0 {
-            let term = Term {
+            let term = SignedTerm {
                 first: false,
                 mono,
                 number: *number,
@@ -147,7 +147,7 @@ impl fmt::Display for Sum<'_> {
         match self.0 {
             [] => Ok(()),
             [(mono, number), more @ ..] => {
-                let term = Term {
+                let term = SignedTerm {
                     first: true,
                     mono,
                     number: *number,
@@ -161,12 +161,12 @@ impl fmt::Display for Sum<'_> {
 
 /// The constant of a polynomial: alone, or behind its terms, where a zero is left out.
 #[derive(Drop)]
-struct Rest<'a> {
+struct LastConstant<'a> {
     terms: &'a [(Mono, i128)],
     number: i128,
 }
 
-impl fmt::Display for Rest<'_> {
+impl fmt::Display for LastConstant<'_> {
     ghost output = { λ r. Some (rest_text r.terms.now r.number) };
 
     fn fmt<W: fmt::Write>(&self, f: &mut fmt::Formatter<W>) -> fmt::Result {
@@ -190,7 +190,7 @@ impl fmt::Display for Poly {
     fn fmt<W: fmt::Write>(&self, f: &mut fmt::Formatter<W>) -> fmt::Result {
         let terms = self.terms();
         let sum = Sum(terms);
-        let rest = Rest {
+        let rest = LastConstant {
             terms,
             number: self.rest(),
         };
@@ -200,9 +200,9 @@ impl fmt::Display for Poly {
 
 /// What a row says of its polynomial.
 #[derive(Drop)]
-struct Relation(Kind);
+struct RowRelation(Kind);
 
-impl fmt::Display for Relation {
+impl fmt::Display for RowRelation {
     ghost output = { λ r. Some (relation_text r.0) };
 
     fn fmt<W: fmt::Write>(&self, f: &mut fmt::Formatter<W>) -> fmt::Result {
@@ -218,7 +218,7 @@ impl fmt::Display for Row {
 
     fn fmt<W: fmt::Write>(&self, f: &mut fmt::Formatter<W>) -> fmt::Result {
         let poly = &self.poly;
-        let relation = Relation(self.kind);
+        let relation = RowRelation(self.kind);
         write!(f, "{poly}{relation}")
     }
 }

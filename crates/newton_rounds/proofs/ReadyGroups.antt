@@ -8,7 +8,7 @@ use Rattle.items.proofs.Each.{each-map}
 use Rattle.transition_formula.specs.Transition.{Transition}
 use Rattle.newton_rounds.specs.declared.calls.GroupCall as own
 use Rattle.newton_rounds.specs.declared.calls.Sides.{Sides}
-use Rattle.newton_rounds.specs.declared.group.KnownGroup.{KnownGroup}
+use Rattle.newton_rounds.specs.declared.group.GroupInRounds.{GroupInRounds}
 use Rattle.newton_rounds.specs.Between.{AreSummaries, FitTable, IsGroup, IsMember}
 use Rattle.newton_rounds.specs.Claims.{AreKnownMembers}
 use Rattle.newton_rounds.specs.Closure.{ends_of_members, stretches_with}
@@ -20,7 +20,7 @@ use Rattle.newton_rounds.proofs.GroupCalls.{AreThere}
 use Rattle.newton_rounds.proofs.GroupMembers.{all-members, few-procs, group-is, sides-many}
 use Rattle.newton_rounds.proofs.RoundRows.{summaries-fit, summaries-known}
 
-module _ (group : KnownGroup) (ready : IsReadyGroup group) where
+module _ (group : GroupInRounds) (ready : IsReadyGroup group) where
   pub procs-there : AreThere group.program.now group.procs.now
   procs-there = recursion_from_All (λ proc. proc < length group.program.now.procs) group.procs.now ready.there
 

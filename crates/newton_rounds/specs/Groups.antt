@@ -13,8 +13,8 @@ use Rattle.checked_tree.specs.Law.{AreFittedCells}
 use Rattle.proc_summary.specs.Subject.{Subject, graph_by, subject_of}
 use Rattle.newton_rounds.specs.declared.chains.ChainParts.{ChainParts}
 use Rattle.newton_rounds.specs.declared.closure.GroupGraph.{GroupGraph}
-use Rattle.newton_rounds.specs.declared.group.KnownGroup.{KnownGroup}
-use Rattle.newton_rounds.specs.declared.sides.Caller.{Caller}
+use Rattle.newton_rounds.specs.declared.group.GroupInRounds.{GroupInRounds}
+use Rattle.newton_rounds.specs.declared.sides.GroupCaller.{GroupCaller}
 use Rattle.newton_rounds.specs.Between.{AreChained, IsGroup}
 use Rattle.newton_rounds.specs.Closure.{chain_end, ends_of_members, losses_in_chain_end, stretches_with}
 use Rattle.newton_rounds.specs.Pairs.{Stretch}
@@ -24,7 +24,7 @@ use Rattle.newton_rounds.specs.Shapes.{plain_call}
 
 -- the procedures are some of a well-formed program, each with its own ends, and what is known are
 -- formulas of the program's procedures
-pub record IsReadyGroup (group : KnownGroup) : Type 0 where
+pub record IsReadyGroup (group : GroupInRounds) : Type 0 where
   pub formed : IsWellFormed group.program.now
   pub there : All (λ proc. proc < length group.program.now.procs) group.procs.now
   pub few : length group.procs.now ≤ length group.program.now.procs
@@ -32,13 +32,13 @@ pub record IsReadyGroup (group : KnownGroup) : Type 0 where
   pub known : AreKnown group.program.now group.known.now
 
 -- the subject that a procedure is by what is known
-abbrev pub subject_in : KnownGroup → Proc → Subject
+abbrev pub subject_in : GroupInRounds → Proc → Subject
 subject_in group p = subject_of group.program.now p group.known.now
 
 -- ---- both sides of calls
 
 -- a procedure of the program, by its exit and by what holds at each of its nodes from its entry
-pub record IsReadyCaller (group : KnownGroup) (caller : Caller) : Type 0 where
+pub record IsReadyCaller (group : GroupInRounds) (caller : GroupCaller) : Type 0 where
   pub procedure : caller.proc < length group.program.now.procs
   pub exit : (p : Proc) → IsProcOf group.program.now caller.proc p →
       caller.exit ≡ exit_of (code_of p.body)

@@ -16,7 +16,7 @@ ghost use Rattle.newton_rounds.specs.Shapes.{AreEnds};
 
 use crate::ends::{PairEnds, pair_ends};
 use crate::exits::exit_from;
-use crate::group::KnownGroup;
+use crate::group::GroupInRounds;
 use crate::pairs::base_from;
 use crate::tables::with_table;
 use farkas_check::Oracle;
@@ -30,7 +30,7 @@ use transition_formula::{Formula, FormulaError};
 #[tactic(auto, using(posing::proofs::Following::following), unfolding(crate::specs::Closure::bases_of))]
 pub(crate) fn bases_of<O: Oracle>(
     alloc: Global,
-    group: KnownGroup<'_>,
+    group: GroupInRounds<'_>,
     oracle: &mut O,
     log: &mut Log,
 ) -> Result<Items<Formula>, WorkError>
@@ -41,12 +41,12 @@ pub(crate) fn bases_of<O: Oracle>(
 {
     let others = with_table(alloc, group.procs, &[], group.known)?;
     let known = others.as_slice();
-    bases_by(alloc, KnownGroup { known, ..group }, oracle, log)
+    bases_by(alloc, GroupInRounds { known, ..group }, oracle, log)
 }
 
 fn bases_by<O: Oracle>(
     alloc: Global,
-    group: KnownGroup<'_>,
+    group: GroupInRounds<'_>,
     oracle: &mut O,
     log: &mut Log,
 ) -> Result<Items<Formula>, WorkError>
@@ -66,7 +66,7 @@ fn bases_by<O: Oracle>(
 #[tactic(auto, using(posing::proofs::Following::following), unfolding(crate::specs::Closure::with_base))]
 fn with_base<O: Oracle>(
     alloc: Global,
-    group: KnownGroup<'_>,
+    group: GroupInRounds<'_>,
     proc: u32,
     made: Items<Formula>,
     oracle: &mut O,

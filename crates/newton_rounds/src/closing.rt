@@ -17,7 +17,7 @@ use crate::candidates::{candidate_of, table_of};
 use crate::closure::closure_of;
 use crate::ends::{PairEnds, ends_of_members};
 use crate::findings::RoundEnd;
-use crate::group::KnownGroup;
+use crate::group::GroupInRounds;
 use crate::rounds::last_round;
 use farkas_check::Oracle;
 use items::Items;
@@ -52,7 +52,7 @@ pub fn close<O: Oracle>(
         → IfOk result (AreMetMembers program.now procs.now) }
 {
     let members = ends_of_members(alloc, program, procs)?;
-    let group = KnownGroup {
+    let group = GroupInRounds {
         program,
         procs,
         members: members.as_slice(),
@@ -65,7 +65,7 @@ pub fn close<O: Oracle>(
 #[tactic(auto, using(posing::proofs::Following::following), unfolding(crate::specs::Close::group_closure))]
 fn group_closure<O: Oracle>(
     alloc: Global,
-    group: KnownGroup<'_>,
+    group: GroupInRounds<'_>,
     linear: bool,
     oracle: &mut O,
     log: &mut Log,
@@ -90,7 +90,7 @@ fn group_closure<O: Oracle>(
 #[tactic(auto, using(posing::proofs::Following::following), unfolding(crate::specs::Close::closure_by_rounds))]
 fn closure_by_rounds<O: Oracle>(
     alloc: Global,
-    group: KnownGroup<'_>,
+    group: GroupInRounds<'_>,
     bases: &[Formula],
     oracle: &mut O,
     log: &mut Log,
@@ -110,7 +110,7 @@ fn closure_by_rounds<O: Oracle>(
 #[tactic(auto, using(posing::proofs::Following::following), unfolding(crate::specs::Close::rounds_after))]
 fn rounds_after<O: Oracle>(
     alloc: Global,
-    group: KnownGroup<'_>,
+    group: GroupInRounds<'_>,
     bases: &[Formula],
     table: &[Formula],
     oracle: &mut O,
@@ -132,7 +132,7 @@ fn rounds_after<O: Oracle>(
 #[tactic(auto, using(posing::proofs::Following::following), unfolding(crate::specs::Close::rounds_over))]
 fn rounds_over<O: Oracle>(
     alloc: Global,
-    group: KnownGroup<'_>,
+    group: GroupInRounds<'_>,
     table: &[Formula],
     oracle: &mut O,
     log: &mut Log,

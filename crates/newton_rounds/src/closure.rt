@@ -13,7 +13,7 @@ ghost use Rattle.newton_rounds.specs.Shapes.{FitCalls};
 use crate::calls::{GroupCall, Sides};
 use crate::chains::{ChainParts, closure_at};
 use crate::ends::PairEnds;
-use crate::group::KnownGroup;
+use crate::group::GroupInRounds;
 use crate::sides::{calls_from, sides_of};
 use crate::stretching::pair_formula;
 use crate::tables::with_table;
@@ -40,7 +40,7 @@ pub(crate) struct GroupGraph<'a> {
 #[tactic(auto, using(posing::proofs::Following::following), unfolding(crate::specs::Closure::closure_of))]
 pub(crate) fn closure_of<O: Oracle>(
     alloc: Global,
-    group: KnownGroup<'_>,
+    group: GroupInRounds<'_>,
     bases: &[Formula],
     table: &[Formula],
     oracle: &mut O,
@@ -68,7 +68,7 @@ pub(crate) fn closure_of<O: Oracle>(
 #[tactic(auto, using(posing::proofs::Following::following))]
 fn sides_by<O: Oracle>(
     alloc: Global,
-    group: KnownGroup<'_>,
+    group: GroupInRounds<'_>,
     table: &[Formula],
     oracle: &mut O,
     log: &mut Log,
@@ -85,7 +85,7 @@ fn sides_by<O: Oracle>(
 {
     let all = with_table(alloc, group.procs, table, group.known)?;
     let known = all.as_slice();
-    sides_of(alloc, KnownGroup { known, ..group }, oracle, log)
+    sides_of(alloc, GroupInRounds { known, ..group }, oracle, log)
 }
 
 /// The formula of each procedure, by the graph of the group's calls.

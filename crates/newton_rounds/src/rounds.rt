@@ -18,7 +18,7 @@ use crate::candidates::table_of;
 use crate::dropping::{JudgedRow, dropped_notes, kept_rows};
 use crate::exits::exit_from;
 use crate::findings::{Judgements, RoundEnd};
-use crate::group::KnownGroup;
+use crate::group::GroupInRounds;
 use crate::refuting::refutation;
 use crate::tables::with_table;
 use farkas_check::Oracle;
@@ -33,7 +33,7 @@ use transition_formula::{Formula, FormulaError};
 /// The end of the last round, after rounds until none drops a row.
 pub(crate) fn last_round<O: Oracle>(
     alloc: Global,
-    group: KnownGroup<'_>,
+    group: GroupInRounds<'_>,
     candidates: Items<Items<Row>>,
     oracle: &mut O,
     log: &mut Log,
@@ -63,7 +63,7 @@ pub(crate) fn last_round<O: Oracle>(
 #[tactic(auto, using(posing::proofs::Following::following), unfolding(crate::specs::Candidates::round))]
 fn round<O: Oracle>(
     alloc: Global,
-    group: KnownGroup<'_>,
+    group: GroupInRounds<'_>,
     candidates: &[Items<Row>],
     oracle: &mut O,
     log: &mut Log,
@@ -78,7 +78,7 @@ fn round<O: Oracle>(
 {
     let all = known_formulas_with(alloc, group, candidates)?;
     let known = all.as_slice();
-    let group = KnownGroup { known, ..group };
+    let group = GroupInRounds { known, ..group };
     let judged = judgements_in(alloc, group, candidates, oracle, log)?;
     Ok(round_end(alloc, judged, log)?)
 }
@@ -86,7 +86,7 @@ fn round<O: Oracle>(
 /// The known formulas, with those of the candidates.
 fn known_formulas_with(
     alloc: Global,
-    group: KnownGroup<'_>,
+    group: GroupInRounds<'_>,
     candidates: &[Items<Row>],
 ) -> Result<Items<Option<Formula>>, FormulaError>
     requires group { IsReadyGroup group }
@@ -145,7 +145,7 @@ fn rows_left(
 #[tactic(auto, using(posing::proofs::Following::following))]
 fn judgements_in<O: Oracle>(
     alloc: Global,
-    group: KnownGroup<'_>,
+    group: GroupInRounds<'_>,
     candidates: &[Items<Row>],
     oracle: &mut O,
     log: &mut Log,
@@ -178,7 +178,7 @@ fn no_judgements(alloc: Global) -> Judgements
 #[tactic(auto, using(posing::proofs::Following::following), unfolding(crate::specs::Candidates::with_round))]
 fn with_round<O: Oracle>(
     alloc: Global,
-    group: KnownGroup<'_>,
+    group: GroupInRounds<'_>,
     made: Judgements,
     proc: u32,
     rows: &[Row],

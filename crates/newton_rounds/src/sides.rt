@@ -12,7 +12,7 @@ ghost use Rattle.newton_rounds.specs.Members.{calls_from, calls_of, members_of};
 ghost use Rattle.newton_rounds.specs.Shapes.{AddSides, FitCalls, FitSides, HasNodes, IsCallIn, plain_call};
 
 use crate::calls::{GroupCall, Sides, calls_of};
-use crate::group::KnownGroup;
+use crate::group::GroupInRounds;
 use farkas_check::Oracle;
 use flow_graph::graph;
 use items::Items;
@@ -50,7 +50,7 @@ pub(crate) fn calls_from(
 /// Both sides of all calls of the group by its procedures.
 pub(crate) fn sides_of<O: Oracle>(
     alloc: Global,
-    group: KnownGroup<'_>,
+    group: GroupInRounds<'_>,
     oracle: &mut O,
     log: &mut Log,
 ) -> Result<Items<Sides>, WorkError>
@@ -73,7 +73,7 @@ pub(crate) fn sides_of<O: Oracle>(
 #[tactic(auto, using(posing::proofs::Following::following), unfolding(crate::specs::Closure::with_member))]
 fn with_member<O: Oracle>(
     alloc: Global,
-    group: KnownGroup<'_>,
+    group: GroupInRounds<'_>,
     made: Items<Sides>,
     place: u32,
     oracle: &mut O,
@@ -94,7 +94,7 @@ fn with_member<O: Oracle>(
     let proc = group.procs[place as usize];
     let (exit, calls) = member_calls(alloc, group, place)?;
     let starts = cells(alloc, group.program, proc, group.known, 0, oracle, log)?;
-    let caller = Caller {
+    let caller = GroupCaller {
         proc,
         exit,
         starts: starts.as_slice(),
@@ -105,7 +105,7 @@ fn with_member<O: Oracle>(
 /// The exit of the procedure at a place, and its calls of the group.
 fn member_calls(
     alloc: Global,
-    group: KnownGroup<'_>,
+    group: GroupInRounds<'_>,
     place: u32,
 ) -> Result<(u32, Items<GroupCall>), AllocError>
     requires group { IsReadyGroup group }
@@ -117,7 +117,7 @@ fn member_calls(
         → IsProcOf group.entry.program.now (slice_index group.entry.procs.now place) p
         → IfOk result (λ found. map plain_call found.1 ≡ calls_of group.entry.procs.now place p) }
 {
-    let KnownGroup { program, procs, .. } = group;
+    let GroupInRounds { program, procs, .. } = group;
     let graph = graph(alloc, program, procs[place as usize])?;
     let calls = calls_of(alloc, graph.edges.as_slice(), procs, place)?;
     Ok((graph.nodes - 1, calls))
@@ -137,7 +137,7 @@ pub(crate) fn columns_of(program: &Program, proc: u32) -> u32
 /// A procedure of the group whose calls are read: its number, the node of its exit, and what holds
 /// at each of its nodes from its entry.
 #[derive(Clone, Copy)]
-pub(crate) struct Caller<'a> {
+pub(crate) struct GroupCaller<'a> {
     pub(crate) proc: u32,
     pub(crate) exit: u32,
     pub(crate) starts: &'a [Cell<Formula>],
@@ -146,8 +146,8 @@ pub(crate) struct Caller<'a> {
 /// The sides of several calls behind others.
 fn with_all_sides<O: Oracle>(
     alloc: Global,
-    group: KnownGroup<'_>,
-    caller: Caller<'_>,
+    group: GroupInRounds<'_>,
+    caller: GroupCaller<'_>,
     made: Items<Sides>,
     calls: &[GroupCall],
     oracle: &mut O,
@@ -174,8 +174,8 @@ fn with_all_sides<O: Oracle>(
 #[tactic(auto, using(posing::proofs::Following::following), unfolding(crate::specs::Closure::with_sides))]
 fn with_sides<O: Oracle>(
     alloc: Global,
-    group: KnownGroup<'_>,
-    caller: Caller<'_>,
+    group: GroupInRounds<'_>,
+    caller: GroupCaller<'_>,
     made: Items<Sides>,
     call: &GroupCall,
     oracle: &mut O,
@@ -202,8 +202,8 @@ fn with_sides<O: Oracle>(
 #[tactic(auto, using(posing::proofs::Following::following), unfolding(crate::specs::Closure::sides_from))]
 fn sides_from<O: Oracle>(
     alloc: Global,
-    group: KnownGroup<'_>,
-    caller: Caller<'_>,
+    group: GroupInRounds<'_>,
+    caller: GroupCaller<'_>,
     call: &GroupCall,
     oracle: &mut O,
     log: &mut Log,
@@ -218,8 +218,8 @@ fn sides_from<O: Oracle>(
     ensures fits { (p : Procedure) → IsProcOf group.entry.program.now caller.entry.proc p
         → IfOk result (FitSides (width_of group.entry.program.now p)) }
 {
-    let KnownGroup { program, known, .. } = group;
-    let Caller { proc, exit, starts } = caller;
+    let GroupInRounds { program, known, .. } = group;
+    let GroupCaller { proc, exit, starts } = caller;
     let columns = columns_of(program, proc);
     let ends = cells(alloc, program, proc, known, call.to, oracle, log)?;
     let before = formula_at(alloc, columns, starts, call.from)?;

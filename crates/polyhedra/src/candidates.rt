@@ -16,7 +16,7 @@ use std::alloc::{AllocError, Global};
 use std::collections::BTreeSet;
 
 /// What tells a direction from others: its terms and its constant.
-type Key = (Items<(Mono, i128)>, i128);
+type PolyKey = (Items<(Mono, i128)>, i128);
 
 /// The directions in which bounds are asked for: each named column with both signs, each difference
 /// of two named columns, and each harvested term with both signs, each once; one with a number past
@@ -37,7 +37,7 @@ pub fn directions(alloc: Global, voc: &Vocabulary) -> Result<Items<Poly>, AllocE
 fn add_columns(
     alloc: Global,
     made: &mut Vec<Poly>,
-    known: &mut BTreeSet<Key>,
+    known: &mut BTreeSet<PolyKey>,
     named: &[u32],
 ) -> Result<(), AllocError>
     requires { TellsMade known.old made.old.items }
@@ -57,7 +57,7 @@ fn add_columns(
 fn add_differences(
     alloc: Global,
     made: &mut Vec<Poly>,
-    known: &mut BTreeSet<Key>,
+    known: &mut BTreeSet<PolyKey>,
     named: &[u32],
 ) -> Result<(), AllocError>
     requires { TellsMade known.old made.old.items }
@@ -75,7 +75,7 @@ fn add_differences(
 fn add_less_others(
     alloc: Global,
     made: &mut Vec<Poly>,
-    known: &mut BTreeSet<Key>,
+    known: &mut BTreeSet<PolyKey>,
     named: &[u32],
     u: u32,
 ) -> Result<(), AllocError>
@@ -97,7 +97,7 @@ fn add_less_others(
 fn add_terms(
     alloc: Global,
     made: &mut Vec<Poly>,
-    known: &mut BTreeSet<Key>,
+    known: &mut BTreeSet<PolyKey>,
     harvested: &[Poly],
 ) -> Result<(), AllocError>
     requires { TellsMade known.old made.old.items }
@@ -116,7 +116,7 @@ fn add_terms(
 fn add_both_signs(
     alloc: Global,
     made: &mut Vec<Poly>,
-    known: &mut BTreeSet<Key>,
+    known: &mut BTreeSet<PolyKey>,
     poly: Poly,
 ) -> Result<(), AllocError>
     requires { TellsMade known.old made.old.items }
@@ -132,7 +132,7 @@ fn add_both_signs(
 fn add(
     alloc: Global,
     made: &mut Vec<Poly>,
-    known: &mut BTreeSet<Key>,
+    known: &mut BTreeSet<PolyKey>,
     candidate: Result<Poly, TermError>,
 ) -> Result<(), AllocError>
     requires { TellsMade known.old made.old.items }
@@ -151,7 +151,7 @@ fn add(
 fn add_new(
     alloc: Global,
     made: &mut Vec<Poly>,
-    known: &mut BTreeSet<Key>,
+    known: &mut BTreeSet<PolyKey>,
     poly: Poly,
 ) -> Result<(), AllocError>
     requires { TellsMade known.old made.old.items }
@@ -165,7 +165,7 @@ fn add_new(
     Ok(())
 }
 
-fn key_of(alloc: Global, poly: &Poly) -> Result<Key, AllocError>
+fn key_of(alloc: Global, poly: &Poly) -> Result<PolyKey, AllocError>
     ensures { IfOk result (λ key. key ≡ key_of poly.now) }
 {
     let terms = Items::from_vec(Vec::from_slice(alloc, poly.terms())?);

@@ -23,7 +23,7 @@ use Rattle.polyhedra.proofs.Lists.{each-unmap, filter-passes, each-tested}
 use Rattle.polyhedra.proofs.RelationTerms.{IsTrueIn, IsTrueRelation}
 use Rattle.items.proofs.Each.{each-any}
 use Rattle.recurrence.specs.declared.terms.Recurrence.{Recurrence}
-use Rattle.recurrence.specs.declared.terms.Term.{Term}
+use Rattle.recurrence.specs.declared.terms.StratumTerm.{StratumTerm}
 use Rattle.recurrence.specs.Products.{is_known, columns_after_turn, sequence_of, known_products, sequences}
 use Rattle.recurrence.specs.Strata.{steady, recurrence_of, term_of}
 use Rattle.linear_terms.proofs.Worth.{IsWorth, IsWorth-Ok, IsWorth-same, IsWorth-whole, IsWorth-sum, column_of-value, linear-value, dot-minus, dot-same, AreWorth, IsWorth-combination}
@@ -241,7 +241,7 @@ module _ (ms : List (List Col)) (body : Transition) (steps : ℕ) (states : ℕ 
 
   -- of a stratum
   pub terms-along : (d : ℕ) (rs : List Recurrence) (ls : List Ladder) → AreAlong d rs ls → (found : List Relation) → AllByRecursion (IsTrueRelation (changes_of true body) (map (λ (l : Recurrence). l.start) rs)) found
-      → AreAlong (suc d) (map (λ (t : Term). t.recurrence) (map (term_of (moving true body) rs) found)) (map (λ r. term_ladder r ls) found)
+      → AreAlong (suc d) (map (λ (t : StratumTerm). t.recurrence) (map (term_of (moving true body) rs) found)) (map (λ r. term_ladder r ls) found)
   terms-along d rs ls along [] told = tt
   terms-along d rs ls along (r ∷ found) told = (term-along d r rs ls along told.0, terms-along d rs ls along found told.1)
 

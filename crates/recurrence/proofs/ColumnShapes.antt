@@ -23,7 +23,7 @@ use Rattle.polyhedra.proofs.RowShapes.{with_row-keeps, bounded-keeps, each-keeps
 use Rattle.polyhedra.specs.Directions.{directions}
 use Rattle.polyhedra.specs.Changes.{poly_at, change, moving}
 use Rattle.polyhedra.specs.Bounds.{for_entries, put_in_for, with_row, before_row, after_row, change_row, rows_with_entry_bound, rows_with_exit_bound, bounded_change}
-use Rattle.recurrence.specs.declared.terms.Term.{Term}
+use Rattle.recurrence.specs.declared.terms.StratumTerm.{StratumTerm}
 use Rattle.recurrence.specs.Products.{products}
 use Rattle.recurrence.specs.Strata.{strata}
 use Rattle.recurrence.specs.Progressions.{Progression, excess, progression_row, progressions, bounded_progression}
@@ -107,7 +107,7 @@ Canonical row = IsCanonical row.poly.terms
 abbrev pub RowsAreCanonical : List Row → Type 0
 RowsAreCanonical rows = AllByRecursion (λ row. IsCanonical row.poly.terms) rows
 
-term_row-canonical : (ms : List (List Col)) (body : Transition) (t : Term) → IsCanonicalRow (term_row ms body t)
+term_row-canonical : (ms : List (List Col)) (body : Transition) (t : StratumTerm) → IsCanonicalRow (term_row ms body t)
 term_row-canonical ms body t = record {
   as_made = λ r e.
       on_ok (past_third ms t) (λ d4. t.recurrence.first >>= λ d1. t.recurrence.second >>= λ d2. t.recurrence.third >>= λ d3. closed_row (linear t.relation.a (map (after body) (moving true body))) t.recurrence.start d1 d2 d3 (count body)) r e (λ d4 e4 e0.

@@ -35,7 +35,7 @@ use Rattle.polyhedra.proofs.Places.{any-range}
 use Rattle.polyhedra.proofs.RowShapes.{with_row-keeps, bounded-keeps, each-keeps}
 use Rattle.polyhedra.proofs.DirectionShapes.{each-distinct}
 use Rattle.recurrence.specs.declared.terms.Recurrence.{Recurrence}
-use Rattle.recurrence.specs.declared.terms.Term.{Term}
+use Rattle.recurrence.specs.declared.terms.StratumTerm.{StratumTerm}
 use Rattle.recurrence.specs.declared.terms.Strata.{Strata}
 use Rattle.recurrence.specs.Products.{is_known, columns_after_turn, sequence_of, known_products, sequences, unmodified_columns, with_terms, products}
 use Rattle.recurrence.specs.Words.{IsClosed}
@@ -170,14 +170,14 @@ module _ (body : Transition) where
 
   -- ---- strata
 
-  abbrev TermWithin : Term → Type 0
+  abbrev TermWithin : StratumTerm → Type 0
   TermWithin t = IsRecurrenceWithin Below t.recurrence
 
-  abbrev OfSome : Option (List Term) → Type 0
+  abbrev OfSome : Option (List StratumTerm) → Type 0
   OfSome None = Unit {0}
   OfSome (Some terms) = AllByRecursion TermWithin terms
 
-  of_unwrapped : (v : Option (List Term)) → OfSome v → AllByRecursion TermWithin (unwrap_or v [])
+  of_unwrapped : (v : Option (List StratumTerm)) → OfSome v → AllByRecursion TermWithin (unwrap_or v [])
   of_unwrapped None h = tt
   of_unwrapped (Some terms) h = h
 
@@ -196,12 +196,12 @@ module _ (body : Transition) where
         next = turned-each known (λ p. EachColumn Below p.terms) tt (λ v p e.
             each-more (λ t. AllByRecursion (λ c. IsTrue (is_known known c)) t.0) (λ t. AllByRecursion Below t.0) (λ t k. each-more (λ c. IsTrue (is_known known c)) Below known-below t.0 k) p.terms (closed (At v) p e))
 
-    over-within : (known : List (Option Polynomial)) → IsClosed known → length known ≤ body.to → (ms : List (List Col)) (v : Option (List Term)) → OfSome v → AllByRecursion (IsRecurrenceWithin Below) (over body ms known v)
+    over-within : (known : List (Option Polynomial)) → IsClosed known → length known ≤ body.to → (ms : List (List Col)) (v : Option (List StratumTerm)) → OfSome v → AllByRecursion (IsRecurrenceWithin Below) (over body ms known v)
     over-within known closed few ms v h =
-        each-append (IsRecurrenceWithin Below) (map steady (steady_columns body) ++ map (λ (t : Term). t.recurrence) (unwrap_or v [])) (sequences known ms)
-        (each-append (IsRecurrenceWithin Below) (map steady (steady_columns body)) (map (λ (t : Term). t.recurrence) (unwrap_or v []))
+        each-append (IsRecurrenceWithin Below) (map steady (steady_columns body) ++ map (λ (t : StratumTerm). t.recurrence) (unwrap_or v [])) (sequences known ms)
+        (each-append (IsRecurrenceWithin Below) (map steady (steady_columns body)) (map (λ (t : StratumTerm). t.recurrence) (unwrap_or v []))
         (each-map (λ v. v < body.to) (IsRecurrenceWithin Below) steady (λ v k. steady-within Below v (column-below v k)) (steady_columns body) (steady-below same_ends))
-        (each-map TermWithin (IsRecurrenceWithin Below) (λ (t : Term). t.recurrence) (λ t k. k) (unwrap_or v []) (of_unwrapped v h)))
+        (each-map TermWithin (IsRecurrenceWithin Below) (λ (t : StratumTerm). t.recurrence) (λ t k. k) (unwrap_or v []) (of_unwrapped v h)))
         (sequences-within known closed few ms)
 
     stratum-within : (lower : List Recurrence) → AllByRecursion (IsRecurrenceWithin Below) lower → Always OfSome (stratum body lower)
@@ -252,7 +252,7 @@ module _ (body : Transition) where
     abbrev pub RowsWithin : List Row → Type 0
     RowsWithin rows = AllByRecursion (λ row. EachColumn Below row.poly.terms) rows
 
-    term_row-within : (ms : List (List Col)) (t : Term) → TermWithin t → IsRowWithin Below (term_row ms body t)
+    term_row-within : (ms : List (List Col)) (t : StratumTerm) → TermWithin t → IsRowWithin Below (term_row ms body t)
     term_row-within ms t h = record {
       as_made = λ r e.
           on_ok (past_third ms t) (λ d4. t.recurrence.first >>= λ d1. t.recurrence.second >>= λ d2. t.recurrence.third >>= λ d3. closed_row (linear t.relation.a (map (after body) (moving true body))) t.recurrence.start d1 d2 d3 (count body)) r e (λ d4 e4 e0.

@@ -32,7 +32,7 @@ use Rattle.polyhedra.proofs.Coverage.{over-covered}
 use Rattle.polyhedra.proofs.DirectionShapes.{directions-over}
 use Rattle.recurrence.specs.Law.{IsStarred}
 use Rattle.recurrence.specs.declared.progressions.Turns.{Turns}
-use Rattle.recurrence.specs.declared.terms.Term.{Term}
+use Rattle.recurrence.specs.declared.terms.StratumTerm.{StratumTerm}
 use Rattle.recurrence.specs.declared.terms.Strata.{Strata}
 use Rattle.recurrence.specs.Products.{products}
 use Rattle.recurrence.specs.Progressions.{signs, open_variables, progressions_of, progressions, bounded_progression}
@@ -59,8 +59,8 @@ each-flat step f made (x ∷ xs) = each-append step made (f x) (flat_map f xs) �
 pub variable-parts : (turns : Turns) (rows : List Row) (v : ℕ)
     → each (by_term turns record { variable = v; up = pos 1 }) rows turns.terms.now >>= (λ upward. each (by_term turns record { variable = v; up = negsuc 0 }) upward turns.terms.now >>= (λ both. Done both)) ≡ by_variable turns rows v
 variable-parts turns rows v =
-    sym (each-flat (rows_with_progression_bound turns) (λ up. flat_map (λ (t : Term). map (λ by. record { variable = v; up = up; term = t; by = by }) signs) turns.terms.now) rows signs
-    ∙ (λ i. each (λ m up. each-flat (rows_with_progression_bound turns) (λ (t : Term). map (λ by. record { variable = v; up = up; term = t; by = by }) signs) m turns.terms.now i) rows signs))
+    sym (each-flat (rows_with_progression_bound turns) (λ up. flat_map (λ (t : StratumTerm). map (λ by. record { variable = v; up = up; term = t; by = by }) signs) turns.terms.now) rows signs
+    ∙ (λ i. each (λ m up. each-flat (rows_with_progression_bound turns) (λ (t : StratumTerm). map (λ by. record { variable = v; up = up; term = t; by = by }) signs) m turns.terms.now i) rows signs))
 
 not_more : (r : ℕ) → r ≤ 1 → nat_lt 1 r ≡ false
 not_more r h = grind arith

@@ -25,7 +25,7 @@ use Rattle.closed_form.proofs.Progressions.{sum_row-climb}
 use Rattle.polyhedra.specs.Vocabulary.{Vocabulary}
 use Rattle.polyhedra.proofs.Turns.{number_in, reads-numbers, change-worth, IsRunOf}
 use Rattle.polyhedra.proofs.RunBounds.{IsWorthAlong, IsBelow, bounded-true}
-use Rattle.recurrence.specs.declared.terms.Term.{Term}
+use Rattle.recurrence.specs.declared.terms.StratumTerm.{StratumTerm}
 use Rattle.recurrence.specs.declared.terms.Strata.{Strata}
 use Rattle.recurrence.specs.Progressions.{Progression, signs, open_variables, progressions_of, progressions, excess, progression_row, bounded_progression}
 use Rattle.recurrence.specs.Star.{after, count, change_over_turns}
@@ -96,14 +96,14 @@ module _ (ms : List (List Col)) (body : Transition) (steps : ℕ) (states : ℕ 
         → Always (RowsHold at) (bounded_progression body.cases (change_over_turns body) (count body) rows p)
     progression-true rows p h hold = bounded-true body steps states run at (excess p) (progression_row (change_over_turns body) (count body) p) (over_term p h) rows (excess-worth p h) (row-true p h) hold
 
-pub each-progression : (body : Transition) (voc : Vocabulary) (s : Strata) (P : Term → Type 0) (Q : ℕ → Type 0) → AllByRecursion P s.first → AllByRecursion Q (open_variables body voc s)
+pub each-progression : (body : Transition) (voc : Vocabulary) (s : Strata) (P : StratumTerm → Type 0) (Q : ℕ → Type 0) → AllByRecursion P s.first → AllByRecursion Q (open_variables body voc s)
     → AllByRecursion (λ (p : Progression). Q p.variable × P p.term) (progressions body voc s)
 each-progression body voc s P Q h variables = go (nat_lt 1 voc.rule)
   where
     of_each : (v : ℕ) → Q v → AllByRecursion (λ (p : Progression). Q p.variable × P p.term) (progressions_of s.first v)
     of_each v q =
-        each-flat_map (λ up. Unit {0}) (λ (p : Progression). Q p.variable × P p.term) (λ up. flat_map (λ (t : Term). map (λ by. record { variable = v; up = up; term = t; by = by }) signs) s.first)
-        (λ up any. each-flat_map P (λ (p : Progression). Q p.variable × P p.term) (λ (t : Term). map (λ by. record { variable = v; up = up; term = t; by = by }) signs)
+        each-flat_map (λ up. Unit {0}) (λ (p : Progression). Q p.variable × P p.term) (λ up. flat_map (λ (t : StratumTerm). map (λ by. record { variable = v; up = up; term = t; by = by }) signs) s.first)
+        (λ up any. each-flat_map P (λ (p : Progression). Q p.variable × P p.term) (λ (t : StratumTerm). map (λ by. record { variable = v; up = up; term = t; by = by }) signs)
         (λ t k. each-map (λ by. Unit {0}) (λ (p : Progression). Q p.variable × P p.term) (λ by. record { variable = v; up = up; term = t; by = by }) (λ by any. (q, k)) signs (each-any (λ by. Unit {0}) (λ by. tt) signs)) s.first h)
         signs (each-any (λ up. Unit {0}) (λ up. tt) signs)
 

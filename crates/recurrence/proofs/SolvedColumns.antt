@@ -21,7 +21,7 @@ use Rattle.linear_terms.proofs.Values.{int_eq-zero}
 use Rattle.transition_formula.specs.Transition.{Transition, every_column}
 use Rattle.transition_formula.proofs.ColumnTests.{both, columns_from_test}
 use Rattle.polyhedra.specs.Changes.{is_modified, moving}
-use Rattle.recurrence.specs.declared.terms.Term.{Term}
+use Rattle.recurrence.specs.declared.terms.StratumTerm.{StratumTerm}
 use Rattle.recurrence.specs.Products.{knowledge_of, is_known, unmodified_columns, sole, is_open, with_next, with_change, with_solved, with_term, with_terms, columns_after_turn}
 use Rattle.recurrence.specs.Words.{HasKnown, IsClosed}
 use Rattle.recurrence.proofs.Within.{within-Ok, within-column, within-sum}
@@ -147,7 +147,7 @@ unchanged-closed body ms = go
     go (Aux n) p e = cc
     go (At v) p e = subst (HasKnown (unmodified_columns body ms)) (unchanged-known body ms v p e).1 ((known-some (unmodified_columns body ms) (At v) p e, tt), tt)
 
-pub term-closed : (variables : List ℕ) (known : List (Option Polynomial)) (t : Term) → IsClosed known → IsClosed (with_term variables known t)
+pub term-closed : (variables : List ℕ) (known : List (Option Polynomial)) (t : StratumTerm) → IsClosed known → IsClosed (with_term variables known t)
 term-closed variables known t closed = go (sole variables t.relation.a)
   where
     go : (o : Option ℕ) → IsClosed (with_solved known o t.recurrence.first)
@@ -155,31 +155,31 @@ term-closed variables known t closed = go (sole variables t.relation.a)
     go (Some v) = change-keeps IsClosed known v t.recurrence.first closed (λ change next e opened all f. closed-next known v change next closed opened all f)
 
 -- each term keeps what a property asks
-pub terms-keep : (P : List (Option Polynomial) → Type 0) (Q : Term → Type 0) (variables : List ℕ) → ((known : List (Option Polynomial)) (t : Term) → Q t → P known → P (with_term variables known t))
-    → (known : List (Option Polynomial)) (terms : List Term) → AllByRecursion Q terms → P known → P (fold (with_term variables) known terms)
+pub terms-keep : (P : List (Option Polynomial) → Type 0) (Q : StratumTerm → Type 0) (variables : List ℕ) → ((known : List (Option Polynomial)) (t : StratumTerm) → Q t → P known → P (with_term variables known t))
+    → (known : List (Option Polynomial)) (terms : List StratumTerm) → AllByRecursion Q terms → P known → P (fold (with_term variables) known terms)
 terms-keep P Q variables step known [] all h = h
 terms-keep P Q variables step known (t ∷ terms) all h = terms-keep P Q variables step (with_term variables known t) terms all.1 (step known t all.0 h)
 
-any-terms : (terms : List Term) → AllByRecursion (λ t. Unit {0}) terms
+any-terms : (terms : List StratumTerm) → AllByRecursion (λ t. Unit {0}) terms
 any-terms [] = tt
 any-terms (t ∷ terms) = (tt, any-terms terms)
 
-pub fold-closed : (variables : List ℕ) (known : List (Option Polynomial)) (terms : List Term) → IsClosed known → IsClosed (fold (with_term variables) known terms)
+pub fold-closed : (variables : List ℕ) (known : List (Option Polynomial)) (terms : List StratumTerm) → IsClosed known → IsClosed (fold (with_term variables) known terms)
 fold-closed variables known terms closed = terms-keep IsClosed (λ t. Unit {0}) variables (λ all t any h. term-closed variables all t h) known terms (any-terms terms) closed
 
-pub terms-closed : (body : Transition) (known : List (Option Polynomial)) (found : Option (List Term)) → IsClosed known → IsClosed (with_terms body known found)
+pub terms-closed : (body : Transition) (known : List (Option Polynomial)) (found : Option (List StratumTerm)) → IsClosed known → IsClosed (with_terms body known found)
 terms-closed body known found closed = fold-closed (moving true body) known (unwrap_or found []) closed
 
 -- ---- how many there are
 
-term-long : (variables : List ℕ) (known : List (Option Polynomial)) (t : Term) → length (with_term variables known t) ≡ length known
+term-long : (variables : List ℕ) (known : List (Option Polynomial)) (t : StratumTerm) → length (with_term variables known t) ≡ length known
 term-long variables known t = go (sole variables t.relation.a)
   where
     go : (o : Option ℕ) → length (with_solved known o t.recurrence.first) ≡ length known
     go None = refl
     go (Some v) = change-keeps (λ all. length all ≡ length known) known v t.recurrence.first refl (λ change next e opened all f. length-set known v (Some next))
 
-pub terms-long : (body : Transition) (known : List (Option Polynomial)) (found : Option (List Term)) (n : ℕ) → length known ≤ n → length (with_terms body known found) ≤ n
+pub terms-long : (body : Transition) (known : List (Option Polynomial)) (found : Option (List StratumTerm)) (n : ℕ) → length known ≤ n → length (with_terms body known found) ≤ n
 terms-long body known found n h =
     terms-keep (λ all. length all ≤ n) (λ t. Unit {0}) (moving true body) (λ all t any k. let same = term-long (moving true body) all t in omega arith) known (unwrap_or found []) (any-terms (unwrap_or found [])) h
 

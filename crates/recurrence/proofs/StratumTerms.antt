@@ -34,7 +34,7 @@ use Rattle.polyhedra.proofs.Lists.{each-filter, filter-passes}
 use Rattle.polyhedra.proofs.RelationTerms.{IsTrueRelation, AreTrueRelations, relations-true}
 use Rattle.items.proofs.Each.{each-append, each-map, each-more}
 use Rattle.recurrence.specs.declared.terms.Recurrence.{Recurrence}
-use Rattle.recurrence.specs.declared.terms.Term.{Term}
+use Rattle.recurrence.specs.declared.terms.StratumTerm.{StratumTerm}
 use Rattle.recurrence.specs.declared.terms.Strata.{Strata}
 use Rattle.recurrence.specs.Products.{unmodified_columns, sole, with_solved, with_term, with_terms, sequences}
 use Rattle.recurrence.specs.Strata.{steady, term_of, has_terms, stratum, steady_columns, over, stratum_if, is_short, has_grown, strata, all_terms}
@@ -48,44 +48,44 @@ use Rattle.recurrence.proofs.Along.{Ladder, maps-twice, IsAlong, AreAlong, along
 
 module _ (ms : List (List Col)) (body : Transition) (steps : ℕ) (states : ℕ → List ℤ) (run : IsRunOf body steps states) where
   -- the term has a ladder that begins with its numbers
-  pub record IsTermAlong (d : ℕ) (t : Term) : Type 0 where
+  pub record IsTermAlong (d : ℕ) (t : StratumTerm) : Type 0 where
     pub ladder : Ladder
     pub along : IsAlong ms body steps states run d t.recurrence ladder
     pub itself : (i : ℕ) → ladder 0 i ≡ dot t.relation.a (map (number_in (states i)) (moving true body))
 
   -- and it grows in each turn by the constant of its relation
-  pub record IsFirstTerm (t : Term) : Type 0 where
+  pub record IsFirstTerm (t : StratumTerm) : Type 0 where
     pub term : IsTermAlong 1 t
     pub growth : (i : ℕ) → term.ladder 1 i ≡ t.relation.c
 
-  more : (d e : ℕ) → d ≤ e → (t : Term) → IsTermAlong d t → IsTermAlong e t
+  more : (d e : ℕ) → d ≤ e → (t : StratumTerm) → IsTermAlong d t → IsTermAlong e t
   more d e less t h = record {
     ladder = h.ladder;
     along = record { grows = h.along.grows; constant = λ none m i from. h.along.constant none m i (omega arith); start = h.along.start; first = h.along.first; second = h.along.second; third = h.along.third; fourth = h.along.fourth };
     itself = h.itself;
   }
 
-  ladders_of : (d : ℕ) (terms : List Term) → AllByRecursion (IsTermAlong d) terms → (ls : List Ladder) × AreAlong ms body steps states run d (map (λ (t : Term). t.recurrence) terms) ls
+  ladders_of : (d : ℕ) (terms : List StratumTerm) → AllByRecursion (IsTermAlong d) terms → (ls : List Ladder) × AreAlong ms body steps states run d (map (λ (t : StratumTerm). t.recurrence) terms) ls
   ladders_of d [] h = ([], tt)
   ladders_of d (t ∷ terms) h = let rest = ladders_of d terms h.1 in (h.0.ladder ∷ rest.0, (h.0.along, rest.1))
 
-  abbrev pub OfSome : (Term → Type 0) → Option (List Term) → Type 0
+  abbrev pub OfSome : (StratumTerm → Type 0) → Option (List StratumTerm) → Type 0
   OfSome P None = Unit {0}
   OfSome P (Some terms) = AllByRecursion P terms
 
-  of_unwrapped : (P : Term → Type 0) (v : Option (List Term)) → OfSome P v → AllByRecursion P (unwrap_or v [])
+  of_unwrapped : (P : StratumTerm → Type 0) (v : Option (List StratumTerm)) → OfSome P v → AllByRecursion P (unwrap_or v [])
   of_unwrapped P None h = tt
   of_unwrapped P (Some terms) h = h
 
   -- what is below a stratum: the unmodified columns that occur, the terms of the stratum before, and
   -- the products of known columns
-  over-along : (d : ℕ) → 1 ≤ d → (known : List (Option Polynomial)) → AreNext body steps states run known → (v : Option (List Term)) → OfSome (IsTermAlong d) v → (ls : List Ladder) × AreAlong ms body steps states run d (over body ms known v) ls
+  over-along : (d : ℕ) → 1 ≤ d → (known : List (Option Polynomial)) → AreNext body steps states run known → (v : Option (List StratumTerm)) → OfSome (IsTermAlong d) v → (ls : List Ladder) × AreAlong ms body steps states run d (over body ms known v) ls
   over-along d some known are v h =
       let terms = ladders_of d (unwrap_or v []) (of_unwrapped (IsTermAlong d) v h) in
       let products = sequences-along ms body steps states run known are d ms refl in (
         map (steady_ladder ms body steps states run) (steady_columns body) ++ terms.0 ++ products.0,
-        along-append ms body steps states run d (map steady (steady_columns body) ++ map (λ (t : Term). t.recurrence) (unwrap_or v [])) (sequences known ms) (map (steady_ladder ms body steps states run) (steady_columns body) ++ terms.0) products.0
-            (along-append ms body steps states run d (map steady (steady_columns body)) (map (λ (t : Term). t.recurrence) (unwrap_or v [])) (map (steady_ladder ms body steps states run) (steady_columns body)) terms.0
+        along-append ms body steps states run d (map steady (steady_columns body) ++ map (λ (t : StratumTerm). t.recurrence) (unwrap_or v [])) (sequences known ms) (map (steady_ladder ms body steps states run) (steady_columns body) ++ terms.0) products.0
+            (along-append ms body steps states run d (map steady (steady_columns body)) (map (λ (t : StratumTerm). t.recurrence) (unwrap_or v [])) (map (steady_ladder ms body steps states run) (steady_columns body)) terms.0
             (steadies-along ms body steps states run d (steady_columns body) some
             (each-more (λ v. not (is_modified true body.cases v) ≡ true) (λ v. is_modified true body.cases v ≡ false) (λ v e. opposite (is_modified true body.cases v) e) (steady_columns body)
             (filter-passes (λ v. not (is_modified true body.cases v)) (occurring true body))))
@@ -110,7 +110,7 @@ module _ (ms : List (List Col)) (body : Transition) (steps : ℕ) (states : ℕ 
       counts (case ∷ cases) = all_long (term_count (map (changes_in true (moving true body)) (case ∷ cases))) (length-map (moving true body) (λ v. or_zero (change true case v))) (case ∷ cases)
 
   -- a stratum over recurrences that are true along the run
-  stratum-along : (P : Term → Type 0) (lower : List Recurrence) → ((r : Relation) → IsTrueRelation (changes_of true body) (map (λ (l : Recurrence). l.start) lower) r → P (term_of (moving true body) lower r)) → Always (OfSome P) (stratum body lower)
+  stratum-along : (P : StratumTerm → Type 0) (lower : List Recurrence) → ((r : Relation) → IsTrueRelation (changes_of true body) (map (λ (l : Recurrence). l.start) lower) r → P (term_of (moving true body) lower r)) → Always (OfSome P) (stratum body lower)
   unfolding stratum
   stratum-along P lower tells =
       always_bind (AreTrueRelations (changes_of true body) (map (λ (l : Recurrence). l.start) lower)) (OfSome P) (relations_of (changes_of true body) (map (λ (l : Recurrence). l.start) lower))
@@ -141,12 +141,12 @@ module _ (ms : List (List Col)) (body : Transition) (steps : ℕ) (states : ℕ 
     pub second : AllByRecursion (IsTermAlong 2) s.second
     pub third : AllByRecursion (IsTermAlong 3) s.third
 
-  firsts : (v : Option (List Term)) → OfSome IsFirstTerm v → OfSome (IsTermAlong 1) v
+  firsts : (v : Option (List StratumTerm)) → OfSome IsFirstTerm v → OfSome (IsTermAlong 1) v
   firsts None h = tt
   firsts (Some terms) h = each-more IsFirstTerm (IsTermAlong 1) (λ t k. k.term) terms h
 
   -- what a term of a column alone solves is what the turn makes of that column
-  solved-next : (known : List (Option Polynomial)) (t : Term) → IsTermAlong 3 t → AreNext body steps states run known → AreNext body steps states run (with_term (moving true body) known t)
+  solved-next : (known : List (Option Polynomial)) (t : StratumTerm) → IsTermAlong 3 t → AreNext body steps states run known → AreNext body steps states run (with_term (moving true body) known t)
   solved-next known t h are = go (sole (moving true body) t.relation.a) refl
     where
       is_change : (v : ℕ) → sole (moving true body) t.relation.a ≡ Some v → IsChange body steps states run v t.recurrence.first
@@ -161,10 +161,10 @@ module _ (ms : List (List Col)) (body : Transition) (steps : ℕ) (states : ℕ 
       go None e = are
       go (Some v) e = change-next body steps states run known v t.recurrence.first are (is_change v e)
 
-  terms-next : (known : List (Option Polynomial)) (v : Option (List Term)) → OfSome (IsTermAlong 3) v → AreNext body steps states run known → AreNext body steps states run (with_terms body known v)
+  terms-next : (known : List (Option Polynomial)) (v : Option (List StratumTerm)) → OfSome (IsTermAlong 3) v → AreNext body steps states run known → AreNext body steps states run (with_terms body known v)
   terms-next known v h are = terms-keep (AreNext body steps states run) (IsTermAlong 3) (moving true body) solved-next known (unwrap_or v []) (of_unwrapped (IsTermAlong 3) v h) are
 
-  more-some : (d e : ℕ) → d ≤ e → (v : Option (List Term)) → OfSome (IsTermAlong d) v → OfSome (IsTermAlong e) v
+  more-some : (d e : ℕ) → d ≤ e → (v : Option (List StratumTerm)) → OfSome (IsTermAlong d) v → OfSome (IsTermAlong e) v
   more-some d e less None h = tt
   more-some d e less (Some terms) h = each-more (IsTermAlong d) (IsTermAlong e) (λ t k. more d e less t k) terms h
 
@@ -207,7 +207,7 @@ module _ (ms : List (List Col)) (body : Transition) (steps : ℕ) (states : ℕ 
       go [] r h = ap (λ z. pos 0 +ℤ z) (int_eq-zero r h)
       go (t ∷ ts) r h = cc
 
-  steady-third : (t : Term) (h : IsTermAlong 3 t) (d4 : Polynomial) (ns : List (List Col)) → ms ≡ ns → past_third ns t ≡ Ok d4 → IsTrue (is_none_or_lost (past_third ns t)) → (i : ℕ) → i < steps → h.ladder 3 (i + 1) ≡ h.ladder 3 i
+  steady-third : (t : StratumTerm) (h : IsTermAlong 3 t) (d4 : Polynomial) (ns : List (List Col)) → ms ≡ ns → past_third ns t ≡ Ok d4 → IsTrue (is_none_or_lost (past_third ns t)) → (i : ℕ) → i < steps → h.ladder 3 (i + 1) ≡ h.ladder 3 i
   steady-third t h d4 [] none e passes i within = h.along.constant none 3 (i + 1) (omega arith) ∙ sym (h.along.constant none 3 i (omega arith))
   steady-third t h d4 (n ∷ ns) some e passes i within =
       equal (h.ladder 3 (i + 1)) (h.ladder 3 i)
@@ -229,7 +229,7 @@ module _ (ms : List (List Col)) (body : Transition) (steps : ℕ) (states : ℕ 
   run_of_ladder : Ladder → Run
   run_of_ladder l = record { steps = steps; numbers = l 0; first = l 1; second = l 2; third = l 3 0 }
 
-  pub term_row-true : (at : Valuation) → IsAfter at → (t : Term) → IsTermAlong 3 t → IsTrue (is_none_or_lost (past_third ms t)) → IsTrueIfMade at (term_row ms body t)
+  pub term_row-true : (at : Valuation) → IsAfter at → (t : StratumTerm) → IsTermAlong 3 t → IsTrue (is_none_or_lost (past_third ms t)) → IsTrueIfMade at (term_row ms body t)
   unfolding run_of_ladder
   term_row-true at over_run t h passes = record {
     holds = λ r e.

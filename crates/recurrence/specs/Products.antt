@@ -19,7 +19,7 @@ use Rattle.farkas_check.specs.Columns.{in_print_order}
 use Rattle.polyhedra.specs.Changes.{is_modified, moving, changes_of}
 use Rattle.polyhedra.specs.Vocabulary.{Vocabulary}
 use Rattle.recurrence.specs.declared.terms.Recurrence.{Recurrence}
-use Rattle.recurrence.specs.declared.terms.Term.{Term}
+use Rattle.recurrence.specs.declared.terms.StratumTerm.{StratumTerm}
 
 -- ---- the products of a body
 
@@ -116,11 +116,11 @@ with_solved known None change = known
 with_solved known (Some v) change = with_change known v change
 
 -- with the column that a term solves, if it solves one
-abbrev pub with_term : List ℕ → List (Option Polynomial) → Term → List (Option Polynomial)
+abbrev pub with_term : List ℕ → List (Option Polynomial) → StratumTerm → List (Option Polynomial)
 with_term variables known t = with_solved known (sole variables t.relation.a) t.recurrence.first
 
 -- with those of the terms of a stratum, one after another
-abbrev pub with_terms : Transition → List (Option Polynomial) → Option (List Term)
+abbrev pub with_terms : Transition → List (Option Polynomial) → Option (List StratumTerm)
     → List (Option Polynomial)
 with_terms body known found = fold (with_term (moving true body)) known (unwrap_or found [])
 

@@ -16,7 +16,7 @@ use Rattle.closed_form.specs.ClosedRow.{sum_row}
 use Rattle.polyhedra.specs.Vocabulary.{Vocabulary}
 use Rattle.polyhedra.specs.Changes.{change, modified_variables, moving}
 use Rattle.polyhedra.specs.Bounds.{rows_with_bound}
-use Rattle.recurrence.specs.declared.terms.Term.{Term}
+use Rattle.recurrence.specs.declared.terms.StratumTerm.{StratumTerm}
 use Rattle.recurrence.specs.declared.terms.Strata.{Strata}
 use Rattle.recurrence.specs.Strata.{all_terms}
 
@@ -24,7 +24,7 @@ use Rattle.recurrence.specs.Strata.{all_terms}
 pub record Progression : Type 0 where
   pub variable : ℕ
   pub up : ℤ
-  pub term : Term
+  pub term : StratumTerm
   pub by : ℤ
 
 -- the numbers 1 and -1, in this order
@@ -40,8 +40,8 @@ is_alone (u ∷ us) (n ∷ rest) v =
     else int_eq n (pos 0) && is_alone us rest v
 
 -- a variable is a term by itself
-abbrev pub is_term : List ℕ → List Term → ℕ → Bool
-is_term moving terms v = list_any (λ (t : Term). is_alone moving t.relation.a v) terms
+abbrev pub is_term : List ℕ → List StratumTerm → ℕ → Bool
+is_term moving terms v = list_any (λ (t : StratumTerm). is_alone moving t.relation.a v) terms
 
 -- named modified variables that are no terms by themselves
 abbrev pub open_variables : Transition → Vocabulary → Strata → List ℕ
@@ -50,7 +50,7 @@ open_variables body voc strata =
     && not (is_term (moving true body) (all_terms strata) v)) (modified_variables true body)
 
 -- of one variable: by sign, term of the first stratum, and sign
-abbrev pub progressions_of : List Term → ℕ → List Progression
+abbrev pub progressions_of : List StratumTerm → ℕ → List Progression
 progressions_of terms v = flat_map (λ up. flat_map (λ s. map (λ by. record {
   variable = v;
   up = up;

@@ -22,7 +22,7 @@ use Rattle.polyhedra.specs.Directions.{distinct, directions}
 use Rattle.polyhedra.specs.Changes.{modified_variables, moving, lost_changes}
 use Rattle.polyhedra.specs.Bounds.{with_row, rows_with_entry_bound, rows_with_exit_bound, bounded_change}
 use Rattle.polyhedra.specs.Finish.{finish_of_case}
-use Rattle.recurrence.specs.declared.terms.Term.{Term}
+use Rattle.recurrence.specs.declared.terms.StratumTerm.{StratumTerm}
 use Rattle.recurrence.specs.declared.terms.Strata.{Strata}
 use Rattle.recurrence.specs.Products.{products}
 use Rattle.recurrence.specs.Strata.{strata, all_terms}
@@ -60,12 +60,12 @@ moves body = map (λ v. or_zero (change_over_turns body v)) (range_with_len 0 bo
 
 -- the difference that is zero where a term has a closed row: the fourth where there are products;
 -- else there is no need to look at it
-abbrev pub past_third : List (List Col) → Term → Made
+abbrev pub past_third : List (List Col) → StratumTerm → Made
 past_third [] t = whole (pos 0)
 past_third (m ∷ ms) t = t.recurrence.fourth
 
 -- the term after the turns by Newton's forward difference formula
-abbrev pub term_row : List (List Col) → Transition → Term → Result Row TermError
+abbrev pub term_row : List (List Col) → Transition → StratumTerm → Result Row TermError
 term_row ms body t =
     gives.◌>>=◌ (past_third ms t) (λ d4. gives.◌>>=◌ t.recurrence.first
     (λ d1. gives.◌>>=◌ t.recurrence.second (λ d2. gives.◌>>=◌ t.recurrence.third (λ d3.
@@ -78,15 +78,15 @@ is_none_or_lost (Ok p) = poly_eq p (constant_of (pos 0))
 is_none_or_lost (Err e) = true
 
 -- the numbers of two terms are the same
-abbrev pub same_term : Term → Term → Bool
+abbrev pub same_term : StratumTerm → StratumTerm → Bool
 same_term t u = pointwise int_eq t.relation.a u.relation.a
 
 -- each term once
-abbrev pub terms_once : Strata → List Term
+abbrev pub terms_once : Strata → List StratumTerm
 terms_once s = distinct same_term (all_terms s)
 
 -- those that have a closed row, or of which a step to it is lost
-abbrev pub terms_with_row : List (List Col) → Strata → List Term
+abbrev pub terms_with_row : List (List Col) → Strata → List StratumTerm
 terms_with_row ms s = filter (λ t. is_none_or_lost (past_third ms t)) (terms_once s)
 
 -- there is at least one turn

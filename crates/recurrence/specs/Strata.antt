@@ -16,7 +16,7 @@ use Rattle.posing.specs.Posing.{Posing, Done, ◌>>=◌}
 use Rattle.polyhedra.specs.Changes.{is_modified, modified_variables, moving, changes_of, occurring}
 use Rattle.polyhedra.specs.Relations.{relations_of}
 use Rattle.recurrence.specs.declared.terms.Recurrence.{Recurrence}
-use Rattle.recurrence.specs.declared.terms.Term.{Term}
+use Rattle.recurrence.specs.declared.terms.StratumTerm.{StratumTerm}
 use Rattle.recurrence.specs.declared.terms.Strata.{Strata}
 use Rattle.recurrence.specs.declared.terms.RecurrencePart.{RecurrencePart}
 use Rattle.recurrence.specs.declared.terms.RecurrencePart.TheVariants.{Start, First, Second, Third}
@@ -53,7 +53,7 @@ recurrence_of variables lower r = record {
 }
 
 -- the term of a relation, with its difference equation over the variables and the lower terms
-abbrev pub term_of : List ℕ → List Recurrence → Relation → Term
+abbrev pub term_of : List ℕ → List Recurrence → Relation → StratumTerm
 term_of variables lower r = record { relation = r; recurrence = recurrence_of variables lower r }
 
 -- some term has a number
@@ -64,7 +64,7 @@ has_terms r = list_any (λ n. not (int_eq n (pos 0))) r.a
 
 -- the relations between the changes of a body and lower terms, but for those between lower terms
 -- alone; none where they are not known
-unfoldable pub stratum : Transition → List Recurrence → Posing (Option (List Term))
+unfoldable pub stratum : Transition → List Recurrence → Posing (Option (List StratumTerm))
 stratum body lower =
     relations_of (changes_of true body) (map (λ l. l.start) lower) >>= λ found.
     Done (option_map (λ rs. map (term_of (moving true body) lower) (filter has_terms rs)) found)
@@ -74,24 +74,24 @@ abbrev pub steady_columns : Transition → List ℕ
 steady_columns body = filter (λ v. not (is_modified true body.cases v)) (occurring true body)
 
 -- these columns, then the terms of a stratum, then the products of known columns
-abbrev pub over : Transition → List (List Col) → List (Option Polynomial) → Option (List Term)
+abbrev pub over : Transition → List (List Col) → List (Option Polynomial) → Option (List StratumTerm)
     → List Recurrence
 over body ms known below =
     map steady (steady_columns body) ++ map (λ t. t.recurrence) (unwrap_or below [])
     ++ sequences known ms
 
 -- a stratum, where it is asked
-abbrev pub stratum_if : Bool → Transition → List Recurrence → Posing (Option (List Term))
+abbrev pub stratum_if : Bool → Transition → List Recurrence → Posing (Option (List StratumTerm))
 stratum_if true body lower = stratum body lower
 stratum_if false body lower = Done None
 
 -- the terms are known, and are fewer than so many
-abbrev pub is_short : ℕ → Option (List Term) → Bool
+abbrev pub is_short : ℕ → Option (List StratumTerm) → Bool
 is_short most None = false
 is_short most (Some terms) = nat_lt (length terms) most
 
 -- the second has more terms than the first
-abbrev pub has_grown : Option (List Term) → Option (List Term) → Bool
+abbrev pub has_grown : Option (List StratumTerm) → Option (List StratumTerm) → Bool
 has_grown first second = nat_lt (length (unwrap_or first [])) (length (unwrap_or second []))
 
 -- The first has no lower terms. The second is asked where the first has fewer terms than there are
@@ -108,5 +108,5 @@ strata body ms =
     Done record { first = unwrap_or v1 []; second = unwrap_or v2 []; third = unwrap_or v3 [] }
 
 -- the terms of the three strata, from the first on
-abbrev pub all_terms : Strata → List Term
+abbrev pub all_terms : Strata → List StratumTerm
 all_terms s = s.first ++ s.second ++ s.third

@@ -13,7 +13,7 @@ use Rattle.linear_terms.specs.declared.row.Case.{Case}
 use Rattle.posing.specs.Posing.{Posing, ◌>>=◌, each}
 use Rattle.recurrence.specs.declared.stratifying.Below.{Below}
 use Rattle.recurrence.specs.declared.terms.Recurrence.{Recurrence}
-use Rattle.recurrence.specs.declared.terms.Term.{Term}
+use Rattle.recurrence.specs.declared.terms.StratumTerm.{StratumTerm}
 use Rattle.recurrence.specs.declared.progressions.Turns.{Turns}
 use Rattle.recurrence.specs.declared.progressions.SignedChange.{SignedChange}
 use Rattle.recurrence.specs.declared.progressions.Progression as asked
@@ -83,7 +83,7 @@ rows_with_progression_bound turns = bounded_progression turns.cases.now
     (change_over_turns_by turns.modified.now) (Aux (length turns.modified.now))
 
 -- of one signed change, over both signs of a term
-abbrev pub by_term : Turns → SignedChange → List Row → Term → Posing (List Row)
+abbrev pub by_term : Turns → SignedChange → List Row → StratumTerm → Posing (List Row)
 by_term turns change rows t = each (rows_with_progression_bound turns) rows (map (λ by. record {
   variable = change.variable;
   up = change.up;
@@ -99,7 +99,7 @@ by_variable turns rows v =
 -- ---- rows
 
 -- the row of a term, by the modified variables and those whose change can be made
-abbrev pub row_of_term : List (List Col) → List ℕ → List ℕ → Term → Result Row TermError
+abbrev pub row_of_term : List (List Col) → List ℕ → List ℕ → StratumTerm → Result Row TermError
 row_of_term ms modified moving t =
     gives.◌>>=◌ (past_third ms t) (λ d4. gives.◌>>=◌ t.recurrence.first
     (λ d1. gives.◌>>=◌ t.recurrence.second (λ d2. gives.◌>>=◌ t.recurrence.third (λ d3.

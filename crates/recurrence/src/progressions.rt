@@ -15,7 +15,7 @@ ghost use Rattle.recurrence.specs.Strata.{all_terms};
 ghost use Rattle.recurrence.specs.Words.{is_among, IsMovement, AreTurns, plain_progression, change_over_turns_by, rows_with_progression_bound, by_term, by_variable};
 
 use crate::stratifying::{Body, is_among};
-use crate::terms::{Strata, Term};
+use crate::terms::{Strata, StratumTerm};
 use closed_form::sum_row;
 use farkas_check::{Goal, Oracle};
 use items::Items;
@@ -87,7 +87,7 @@ fn is_in(moving: &[u32], strata: &Strata, v: u32) -> bool
         || is_term(moving, strata.third.as_slice(), v)
 }
 
-fn is_term(moving: &[u32], terms: &[Term], v: u32) -> bool
+fn is_term(moving: &[u32], terms: &[StratumTerm], v: u32) -> bool
     ensures { result ≡ is_term moving.now terms.now v }
 {
     terms
@@ -134,7 +134,7 @@ pub(crate) struct Turns<'a> {
     /// The variables that a turn modifies.
     pub(crate) modified: &'a [u32],
     /// The terms that bound changes.
-    pub(crate) terms: &'a [Term],
+    pub(crate) terms: &'a [StratumTerm],
 }
 
 /// `up` times the change of a variable.
@@ -148,7 +148,7 @@ pub(crate) struct SignedChange {
 #[derive(Clone, Copy)]
 pub(crate) struct Progression<'a> {
     pub(crate) change: SignedChange,
-    pub(crate) term: &'a Term,
+    pub(crate) term: &'a StratumTerm,
     pub(crate) by: i128,
 }
 
@@ -286,7 +286,7 @@ fn with_both_slopes<O: Oracle>(
     rows: Items<Row>,
     turns: Turns,
     change: SignedChange,
-    term: &Term,
+    term: &StratumTerm,
     oracle: &mut O,
     log: &mut Log,
 ) -> Result<Items<Row>, WorkError>

@@ -13,7 +13,7 @@ ghost use Rattle.recurrence.specs.Words.{is_among, unmodified_columns_by};
 
 use crate::progressions::are_zero;
 use crate::stratifying::is_among;
-use crate::terms::{Term, column, term_or_step};
+use crate::terms::{StratumTerm, column, term_or_step};
 use items::Items;
 use linear_terms::{Col, Mono, Poly, TermError, add};
 use std::alloc::{AllocError, Global};
@@ -62,7 +62,7 @@ pub(crate) fn with_terms(
     alloc: Global,
     known: Items<Option<Poly>>,
     variables: &[u32],
-    found: &Option<Items<Term>>,
+    found: &Option<Items<StratumTerm>>,
 ) -> Result<Items<Option<Poly>>, AllocError>
     ensures { IfOk result
         (λ all. all ≡ fold (with_term variables.now) known (unwrap_or found.now [])) }
@@ -77,7 +77,7 @@ fn with_each(
     alloc: Global,
     known: Items<Option<Poly>>,
     variables: &[u32],
-    terms: &[Term],
+    terms: &[StratumTerm],
 ) -> Result<Items<Option<Poly>>, AllocError>
     ensures { IfOk result (λ all. all ≡ fold (with_term variables.now) known terms.now) }
 {
@@ -93,7 +93,7 @@ fn with_term(
     alloc: Global,
     known: Items<Option<Poly>>,
     variables: &[u32],
-    term: &Term,
+    term: &StratumTerm,
 ) -> Result<Items<Option<Poly>>, AllocError>
     ensures { IfOk result (λ all. all ≡ with_term variables.now known term.now) }
 {

@@ -9,7 +9,7 @@ ghost use Rattle.recurrence.specs.Words.{Rise, IsMovement, IsClosed, is_among, l
 
 use crate::growing::sequences;
 use crate::solving::{unmodified_columns, with_terms};
-use crate::terms::{Recurrence, Strata, Term, has_terms, steady, term_of};
+use crate::terms::{Recurrence, Strata, StratumTerm, has_terms, steady, term_of};
 use farkas_check::{Change, Oracle, Relation, Stratum};
 use items::Items;
 use linear_terms::{Mono, Poly};
@@ -33,7 +33,7 @@ pub(crate) struct Below<'a> {
     /// What a turn makes of each column, where it is known.
     pub(crate) known: &'a [Option<Poly>],
     /// The terms of the stratum before, where they are known.
-    pub(crate) terms: &'a Option<Items<Term>>,
+    pub(crate) terms: &'a Option<Items<StratumTerm>>,
 }
 
 /// The strata of a body with these products.
@@ -87,7 +87,7 @@ fn one_stratum<O: Oracle>(
     lower: &[Recurrence],
     oracle: &mut O,
     log: &mut Log,
-) -> Result<Option<Items<Term>>, WorkError>
+) -> Result<Option<Items<StratumTerm>>, WorkError>
     requires { IsMovement body.formula.now body.movement.now }
     ensures { Asks O.asking oracle log result (stratum body.entry.formula.now lower.now) }
 {
@@ -109,7 +109,7 @@ fn next_stratum<O: Oracle>(
     below: Below,
     oracle: &mut O,
     log: &mut Log,
-) -> Result<Option<Items<Term>>, WorkError>
+) -> Result<Option<Items<StratumTerm>>, WorkError>
     requires ends { body.formula.now.from ≡ body.formula.now.to }
     requires movement { IsMovement body.formula.now body.movement.now }
     requires closed { IsClosed below.known.now }
@@ -159,7 +159,7 @@ fn terms_of(
     variables: &[u32],
     lower: &[Recurrence],
     found: Option<Items<Relation>>,
-) -> Result<Option<Items<Term>>, AllocError>
+) -> Result<Option<Items<StratumTerm>>, AllocError>
     requires { Rise variables.now }
     ensures { IfOk result
         (λ terms. terms
@@ -176,7 +176,7 @@ fn terms_from(
     variables: &[u32],
     lower: &[Recurrence],
     relations: Items<Relation>,
-) -> Result<Items<Term>, AllocError>
+) -> Result<Items<StratumTerm>, AllocError>
     requires { Rise variables.now }
     ensures { IfOk result
         (λ terms. terms ≡ map (term_of variables.now lower.now) (filter has_terms relations)) }
@@ -245,7 +245,7 @@ fn steadies(alloc: Global, columns: &[u32]) -> Result<Items<Recurrence>, AllocEr
 
 fn recurrences_in(
     alloc: Global,
-    found: &Option<Items<Term>>,
+    found: &Option<Items<StratumTerm>>,
 ) -> Result<Items<Recurrence>, AllocError>
     ensures { IfOk result (λ all. all ≡ map (λ t. t.recurrence) (unwrap_or found.now [])) }
 {
@@ -255,7 +255,7 @@ fn recurrences_in(
     }
 }
 
-fn recurrences_of(alloc: Global, terms: &[Term]) -> Result<Items<Recurrence>, AllocError>
+fn recurrences_of(alloc: Global, terms: &[StratumTerm]) -> Result<Items<Recurrence>, AllocError>
     ensures { IfOk result (λ all. all ≡ map (λ t. t.recurrence) terms.now) }
 {
     let mut recurrences = Items::new(alloc);
@@ -267,7 +267,7 @@ fn recurrences_of(alloc: Global, terms: &[Term]) -> Result<Items<Recurrence>, Al
 }
 
 /// Whether the terms are known, and are fewer than so many.
-fn is_short(most: usize, found: &Option<Items<Term>>) -> bool
+fn is_short(most: usize, found: &Option<Items<StratumTerm>>) -> bool
     ensures { result ≡ is_short most found.now }
 {
     match found {
@@ -277,20 +277,24 @@ fn is_short(most: usize, found: &Option<Items<Term>>) -> bool
 }
 
 /// Whether the second has more terms than the first, and fewer than so many.
-fn asks_third(most: usize, first: &Option<Items<Term>>, second: &Option<Items<Term>>) -> bool
+fn asks_third(
+    most: usize,
+    first: &Option<Items<StratumTerm>>,
+    second: &Option<Items<StratumTerm>>,
+) -> bool
     ensures { result ≡ (has_grown first.now second.now && is_short most second.now) }
 {
     has_grown(first, second) && is_short(most, second)
 }
 
 /// Whether the second has more terms than the first.
-fn has_grown(first: &Option<Items<Term>>, second: &Option<Items<Term>>) -> bool
+fn has_grown(first: &Option<Items<StratumTerm>>, second: &Option<Items<StratumTerm>>) -> bool
     ensures { result ≡ has_grown first.now second.now }
 {
     count_in(first) < count_in(second)
 }
 
-fn count_in(found: &Option<Items<Term>>) -> usize
+fn count_in(found: &Option<Items<StratumTerm>>) -> usize
     ensures { result ≡ length (unwrap_or found.now []) }
 {
     match found {
@@ -299,7 +303,7 @@ fn count_in(found: &Option<Items<Term>>) -> usize
     }
 }
 
-fn terms_in(alloc: Global, found: Option<Items<Term>>) -> Items<Term>
+fn terms_in(alloc: Global, found: Option<Items<StratumTerm>>) -> Items<StratumTerm>
     ensures { result ≡ unwrap_or found [] }
 {
     match found {

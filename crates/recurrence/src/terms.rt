@@ -27,7 +27,7 @@ pub(crate) struct Recurrence {
 
 /// A term, by the relation that determines its change.
 #[derive(Drop)]
-pub(crate) struct Term {
+pub(crate) struct StratumTerm {
     pub(crate) relation: Relation,
     pub(crate) recurrence: Recurrence,
 }
@@ -35,9 +35,9 @@ pub(crate) struct Term {
 /// The terms of a body, by strata.
 #[derive(Drop)]
 pub(crate) struct Strata {
-    pub(crate) first: Items<Term>,
-    pub(crate) second: Items<Term>,
-    pub(crate) third: Items<Term>,
+    pub(crate) first: Items<StratumTerm>,
+    pub(crate) second: Items<StratumTerm>,
+    pub(crate) third: Items<StratumTerm>,
 }
 
 /// Parts of a recurrence.
@@ -68,13 +68,13 @@ impl Clone for Recurrence {
     }
 }
 
-impl Clone for Term {
+impl Clone for StratumTerm {
     ghost is_clone = { λ a b. b ≡ a };
 
-    fn clone(&self) -> Result<Term, AllocError> {
+    fn clone(&self) -> Result<StratumTerm, AllocError> {
         let relation = self.relation.clone()?;
         let recurrence = self.recurrence.clone()?;
-        Ok(Term {
+        Ok(StratumTerm {
             relation,
             recurrence,
         })
@@ -123,12 +123,12 @@ pub(crate) fn term_of(
     variables: &[u32],
     lower: &[Recurrence],
     relation: Relation,
-) -> Result<Term, AllocError>
+) -> Result<StratumTerm, AllocError>
     requires { Rise variables.now }
     ensures { IfOk result (λ t. t ≡ term_of variables.now lower.now relation) }
 {
     let recurrence = recurrence_of(alloc, variables, lower, &relation)?;
-    Ok(Term {
+    Ok(StratumTerm {
         relation,
         recurrence,
     })

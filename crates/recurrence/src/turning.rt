@@ -18,7 +18,7 @@ ghost use Rattle.recurrence.specs.Words.{Ascend, IsMovement, AreModified, row_of
 use crate::products::products;
 use crate::progressions::{after, turn_count, with_progressions};
 use crate::stratifying::{Body, strata_of};
-use crate::terms::{Strata, Term, column, linear};
+use crate::terms::{Strata, StratumTerm, column, linear};
 use closed_form::row;
 use farkas_check::Oracle;
 use items::Items;
@@ -130,7 +130,11 @@ fn rows_of<O: Oracle>(
 // ---- rows of terms
 
 /// Each term once that has a closed row, or of which a step to it is lost.
-fn terms_with_row(alloc: Global, monos: &[Mono], strata: &Strata) -> Result<Items<Term>, AllocError>
+fn terms_with_row(
+    alloc: Global,
+    monos: &[Mono],
+    strata: &Strata,
+) -> Result<Items<StratumTerm>, AllocError>
     ensures { IfOk result (λ terms. terms ≡ terms_with_row monos.now strata.now) }
 {
     let terms = terms_once(alloc, strata)?;
@@ -144,7 +148,7 @@ fn terms_with_row(alloc: Global, monos: &[Mono], strata: &Strata) -> Result<Item
 }
 
 /// Whether the fourth difference is zero or lost, where there are products.
-fn is_none_or_lost(alloc: Global, monos: &[Mono], term: &Term) -> bool
+fn is_none_or_lost(alloc: Global, monos: &[Mono], term: &StratumTerm) -> bool
     ensures { result ≡ is_none_or_lost (past_third monos.now term.now) }
 {
     match (monos, &term.recurrence.fourth) {
@@ -154,7 +158,7 @@ fn is_none_or_lost(alloc: Global, monos: &[Mono], term: &Term) -> bool
 }
 
 /// Each term once.
-fn terms_once(alloc: Global, strata: &Strata) -> Result<Items<Term>, AllocError>
+fn terms_once(alloc: Global, strata: &Strata) -> Result<Items<StratumTerm>, AllocError>
     ensures { IfOk result (λ terms. terms ≡ terms_once strata.now) }
 {
     let mut made = Items::new(alloc);
@@ -164,7 +168,7 @@ fn terms_once(alloc: Global, strata: &Strata) -> Result<Items<Term>, AllocError>
     Ok(made)
 }
 
-fn add_each(made: &mut Items<Term>, terms: &[Term]) -> Result<(), AllocError>
+fn add_each(made: &mut Items<StratumTerm>, terms: &[StratumTerm]) -> Result<(), AllocError>
     ensures { OnOk result (made.new ≡ fold (with_new same_term) made.old terms.now) }
 {
     for term in terms {
@@ -173,7 +177,7 @@ fn add_each(made: &mut Items<Term>, terms: &[Term]) -> Result<(), AllocError>
     Ok(())
 }
 
-fn add_new(made: &mut Items<Term>, term: &Term) -> Result<(), AllocError>
+fn add_new(made: &mut Items<StratumTerm>, term: &StratumTerm) -> Result<(), AllocError>
     ensures { OnOk result (made.new ≡ with_new same_term made.old term.now) }
 {
     if !has_same(made.as_slice(), term) {
@@ -183,13 +187,13 @@ fn add_new(made: &mut Items<Term>, term: &Term) -> Result<(), AllocError>
     Ok(())
 }
 
-fn has_same(terms: &[Term], term: &Term) -> bool
+fn has_same(terms: &[StratumTerm], term: &StratumTerm) -> bool
     ensures { result ≡ list_any (same_term term.now) terms.now }
 {
     terms.iter().any(|other| is_same(term, other))
 }
 
-fn is_same(term: &Term, other: &Term) -> bool
+fn is_same(term: &StratumTerm, other: &StratumTerm) -> bool
     ensures { result ≡ same_term term.now other.now }
 {
     term.relation.a.as_slice() == other.relation.a.as_slice()
@@ -199,7 +203,7 @@ fn is_same(term: &Term, other: &Term) -> bool
 /// is noted.
 fn equations(
     alloc: Global,
-    terms: &[Term],
+    terms: &[StratumTerm],
     monos: &[Mono],
     modified: &[u32],
     moving: &[u32],
@@ -246,7 +250,7 @@ fn columns_after(
 fn term_row(
     alloc: Global,
     monos: &[Mono],
-    term: &Term,
+    term: &StratumTerm,
     columns: &[Poly],
     modified: &[u32],
 ) -> Result<Row, TermError>
@@ -272,7 +276,7 @@ fn term_row(
 }
 
 /// That the fourth difference can be made, where there are products.
-fn past_third(alloc: Global, monos: &[Mono], term: &Term) -> Result<Poly, TermError>
+fn past_third(alloc: Global, monos: &[Mono], term: &StratumTerm) -> Result<Poly, TermError>
     ensures { Gives cause (λ p. p) result (past_third monos.now term.now) }
 {
     match monos {

@@ -8,14 +8,14 @@ use Rattle.items.specs.Gives.{◌>>=◌}
 use Rattle.syntax_tree.specs.declared.op.Op.{Op}
 use Rattle.syntax_tree.specs.declared.op.Sign.{Sign}
 use Rattle.syntax_tree.specs.declared.evaluation.EvalWide.{EvalWide}
-use Rattle.syntax_tree.specs.declared.evaluation.Stop.{Stop}
+use Rattle.syntax_tree.specs.declared.evaluation.EvalStop.{EvalStop}
 use Rattle.syntax_tree.specs.Term.{Term, Lit, Col, Unary, Binary}
 use Rattle.syntax_tree.proofs.Terms.{terms}
 use Rattle.syntax_tree.specs.Value.{State, Step, early_value, evaluation_result, is_wide, or_else, result_of, sign_steps, unary_value, steps_after, steps_of, unless_wide, value_of, with_number}
 use Rattle.syntax_tree.specs.Evaluation.{as_number, number_of, sign_number, step_number}
 
 abbrev pub Answer : Type 0
-Answer = Result ℤ Stop
+Answer = Result ℤ EvalStop
 
 abbrev pub answer_of : List Step → Option ℤ → Answer
 answer_of steps value = as_number (unless_wide (find is_wide steps) value)

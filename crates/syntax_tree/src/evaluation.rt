@@ -17,7 +17,7 @@ pub struct EvalWide {
 
 // Why an evaluation has no number.
 #[derive(Debug, Clone, Copy)]
-enum Stop {
+enum EvalStop {
     DividesByZero,
     Wide(EvalWide),
 }
@@ -31,13 +31,13 @@ pub fn eval(e: &Core, state: &[i128]) -> Result<Option<i128>, EvalWide>
 {
     match number(e, state) {
         Ok(value) => Ok(Some(value)),
-        Err(Stop::DividesByZero) => Ok(None),
-        Err(Stop::Wide(step)) => Err(step),
+        Err(EvalStop::DividesByZero) => Ok(None),
+        Err(EvalStop::Wide(step)) => Err(step),
     }
 }
 
 #[tactic(auto, using(crate::proofs::Numbers::evaluation))]
-fn number(e: &Core, state: &[i128]) -> Result<i128, Stop>
+fn number(e: &Core, state: &[i128]) -> Result<i128, EvalStop>
     requires { IsTrue (columns_below (length state.now) (term_of e.now)) }
     ensures { result ≡ number_of (term_of e.now) state.now }
 {
@@ -56,7 +56,7 @@ fn number(e: &Core, state: &[i128]) -> Result<i128, Stop>
 }
 
 #[tactic(auto, unfolding(crate::specs::Evaluation::sign_number, crate::specs::Evaluation::step_number))]
-fn at_sign(sign: Sign, x: i128) -> Result<i128, Stop>
+fn at_sign(sign: Sign, x: i128) -> Result<i128, EvalStop>
     ensures { result ≡ sign_number sign x }
 {
     match sign {
@@ -84,12 +84,12 @@ fn early(op: Op, x: i128) -> Option<i128>
 }
 
 #[tactic(auto, unfolding(crate::specs::Evaluation::step_number))]
-fn difference(left: i128, right: i128) -> Result<i128, Stop>
+fn difference(left: i128, right: i128) -> Result<i128, EvalStop>
     ensures { result ≡ step_number (record { op = Op.Sub; left = left; right = right }) }
 {
     let op = Op::Sub;
     left.checked_sub(right)
-        .ok_or(Stop::Wide(EvalWide { left, right, op }))
+        .ok_or(EvalStop::Wide(EvalWide { left, right, op }))
 }
 
 #[tactic(auto, using(crate::proofs::Numbers::minus_quotient))]
@@ -101,15 +101,15 @@ fn remainder(left: i128, right: i128) -> i128
 }
 
 #[tactic(auto, unfolding(crate::specs::Evaluation::step_number))]
-fn at_operator(op: Op, left: i128, right: i128) -> Result<i128, Stop>
+fn at_operator(op: Op, left: i128, right: i128) -> Result<i128, EvalStop>
     ensures { result ≡ step_number (record { op = op; left = left; right = right }) }
 {
-    let wide = Stop::Wide(EvalWide { left, right, op });
+    let wide = EvalStop::Wide(EvalWide { left, right, op });
     match op {
         Op::Add => left.checked_add(right).ok_or(wide),
         Op::Sub => difference(left, right),
         Op::Mul => left.checked_mul(right).ok_or(wide),
-        Op::Div | Op::Rem if right == 0 => Err(Stop::DividesByZero),
+        Op::Div | Op::Rem if right == 0 => Err(EvalStop::DividesByZero),
         Op::Div => left.checked_div(right).ok_or(wide),
         Op::Rem => Ok(remainder(left, right)),
         Op::Lt => Ok(truth(left < right)),

@@ -20,7 +20,7 @@ use Rattle.linear_terms.specs.Equality.{term_eq}
 use Rattle.linear_terms.specs.Mono.{mono_cmp}
 use Rattle.linear_terms.specs.MonoOrder.{mono_cmp_total}
 use Rattle.linear_terms.specs.Polynomial.{Terms, Polynomial}
-use Rattle.transition_formula.specs.Places.{Key, key_by, key_of, term_cmp, key_cmp, first_place, TellsPlaces}
+use Rattle.transition_formula.specs.Places.{RowKey, key_by, key_of, term_cmp, key_cmp, first_place, TellsPlaces}
 use Rattle.transition_formula.specs.Rows.{alike_by, alike, stronger, with_row}
 use Rattle.transition_formula.proofs.ColumnTests.{both}
 use Rattle.transition_formula.proofs.Loops.{row_with}
@@ -28,13 +28,13 @@ use Rattle.transition_formula.proofs.Truths.{terms_same}
 
 pub key_total : IsTotalOrder key_cmp
 key_total =
-    then_total (on_total (λ (k : Key). k.0) (options_total int_cmp_total))
-    (on_total (λ (k : Key). k.1) (lists_total (then_total (on_total (λ (t : List Col × ℤ). t.0) mono_cmp_total) (on_total (λ (t : List Col × ℤ). t.1) int_cmp_total))))
+    then_total (on_total (λ (k : RowKey). k.0) (options_total int_cmp_total))
+    (on_total (λ (k : RowKey). k.1) (lists_total (then_total (on_total (λ (t : List Col × ℤ). t.0) mono_cmp_total) (on_total (λ (t : List Col × ℤ). t.1) int_cmp_total))))
 
-abbrev pub same_key : Key → Key → Bool
+abbrev pub same_key : RowKey → RowKey → Bool
 same_key k l = eq_by_cmp key_cmp k l
 
-pub turned_key : (k l : Key) → same_key k l ≡ same_key l k
+pub turned_key : (k l : RowKey) → same_key k l ≡ same_key l k
 turned_key k l = (eq_by_cmp_equiv key_total).symm k l
 
 -- ---- keys that are equal
@@ -56,7 +56,7 @@ same_option None (Some y) e = cc
 same_option (Some x) None e = cc
 same_option (Some x) (Some y) e = ap (λ z. Some z) ((Decides-int_eq x y).0 e)
 
-pub key_exact : (k l : Key) → same_key k l ≡ true → k ≡ l
+pub key_exact : (k l : RowKey) → same_key k l ≡ true → k ≡ l
 key_exact k l e =
     let parts = both (is_eq (option_cmp int_cmp k.0 l.0)) (is_eq (slice_cmp term_cmp k.1 l.1)) (sym (is_eq-then (option_cmp int_cmp k.0 l.0) (slice_cmp term_cmp k.1 l.1)) ∙ e) in
     let first = same_option k.0 l.0 parts.0 in
@@ -131,7 +131,7 @@ row-at (r ∷ rows) s d i e = go (same_key (key_of s) (key_of r)) refl e (λ j f
     go false f g ih = some_mapped (first_place (same_key (key_of s)) (map key_of rows)) i g (λ j h same. later f j (ih j h) same)
 
 -- the places after a row is put behind the others
-pub place-behind : (rows : List Row) (s : Row) (q : Key) → first_place (same_key (key_of s)) (map key_of rows) ≡ None
+pub place-behind : (rows : List Row) (s : Row) (q : RowKey) → first_place (same_key (key_of s)) (map key_of rows) ≡ None
     → first_place (same_key q) (map key_of (rows ++ s ∷ [])) ≡ cond (same_key (key_of s) q) (Some (length rows)) (first_place (same_key q) (map key_of rows))
 place-behind [] s q e = ap (λ b. cond b (Some 0) None) (turned_key q (key_of s))
 place-behind (r ∷ rows) s q e = go (same_key (key_of s) (key_of r)) refl e (λ f. place-behind rows s q f)
@@ -156,8 +156,8 @@ place-behind (r ∷ rows) s q e = go (same_key (key_of s) (key_of r)) refl e (λ
 
 -- ---- what the code does
 
-module _ (rows : List Row) (s : Row) (places : BTreeMap Key ℕ) (tells : TellsPlaces places rows) where
-  pub told : (key : Key) (o : Option ℕ) → key ≡ key_of s → o ≡ tree.get key_cmp places key → first_place (same_key (key_of s)) (map key_of rows) ≡ o
+module _ (rows : List Row) (s : Row) (places : BTreeMap RowKey ℕ) (tells : TellsPlaces places rows) where
+  pub told : (key : RowKey) (o : Option ℕ) → key ≡ key_of s → o ≡ tree.get key_cmp places key → first_place (same_key (key_of s)) (map key_of rows) ≡ o
   told key o is e = sym (e ∙ ap (tree.get key_cmp places) is ∙ tells (key_of s))
 
   pub replaced : (r : Row) (i : ℕ) → first_place (same_key (key_of s)) (map key_of rows) ≡ Some i → r ≡ get_or rows i r → int_lt r.poly.rest s.poly.rest ≡ true → set rows i s ≡ with_row rows s
@@ -173,8 +173,8 @@ module _ (rows : List Row) (s : Row) (places : BTreeMap Key ℕ) (tells : TellsP
       let put = row-at rows s r i e in
       sym (put.made ∙ ap (λ x. set rows i (stronger x s)) (sym same) ∙ ap (λ b. set rows i (cond b s r)) weaker ∙ ap (λ x. set rows i x) same ∙ set-get_or rows i r)
 
-  pub pushed-tells : (more : BTreeMap Key ℕ) (next : List Row) (key : Key) (place : ℕ) → first_place (same_key (key_of s)) (map key_of rows) ≡ None → key ≡ key_of s → place ≡ length rows → next ≡ rows ++ s ∷ []
-      → ((q : Key) → tree.get key_cmp more q ≡ update same_key (tree.get key_cmp places) key (Some place) q) → TellsPlaces more next
+  pub pushed-tells : (more : BTreeMap RowKey ℕ) (next : List Row) (key : RowKey) (place : ℕ) → first_place (same_key (key_of s)) (map key_of rows) ≡ None → key ≡ key_of s → place ≡ length rows → next ≡ rows ++ s ∷ []
+      → ((q : RowKey) → tree.get key_cmp more q ≡ update same_key (tree.get key_cmp places) key (Some place) q) → TellsPlaces more next
   pushed-tells more next key place e is at behind updates q =
       updates q
       ∙ (λ i. cond (same_key (is i) q) (Some (at i)) (tells q i))

@@ -13,7 +13,7 @@ use Rattle.linear_terms.specs.declared.row.Kind.TheVariants.{AtMost, Equal}
 use Rattle.linear_terms.specs.declared.row.Row.{Row}
 use Rattle.linear_terms.specs.Equality.{term_eq, poly_eq_equiv}
 use Rattle.linear_terms.specs.Polynomial.{Terms, Polynomial}
-use Rattle.transition_formula.specs.Places.{Key, key_by, key_of, first_place, EachApart}
+use Rattle.transition_formula.specs.Places.{RowKey, key_by, key_of, first_place, EachApart}
 use Rattle.transition_formula.specs.Rows.{is_at_most, negated_terms, are_opposite, exclude, close, with_row, each_once, with_met}
 use Rattle.transition_formula.proofs.AtPlaces.{key_total, same_key, key_exact, terms-tie, none_mapped, some_mapped, row-new, row-at}
 use Rattle.transition_formula.proofs.ColumnTests.{both, both_true}
@@ -42,7 +42,7 @@ opposite-turned r s h =
     both_true (is_at_most s.kind && is_at_most r.kind) (pointwise term_eq (negated_terms s.poly.terms) r.poly.terms) (both_true (is_at_most s.kind) (is_at_most r.kind) kinds.1 kinds.0)
     (pointwise-same (negated_terms s.poly.terms) r.poly.terms (ap negated_terms (sym same) ∙ negated-negated r.poly.terms))
 
-abbrev pub opposite_key : Row → Key
+abbrev pub opposite_key : Row → RowKey
 opposite_key r = (None, negated_terms r.poly.terms)
 
 opposite-keys : (p q : Polynomial) (l : Kind) → same_key (opposite_key (row_with p AtMost)) (key_by l q) ≡ are_opposite (row_with p AtMost) (row_with q l)
@@ -54,7 +54,7 @@ opposite-key r s e = opposite-keys r.poly s.poly s.kind ∙ ap (λ k. is_at_most
 
 -- ---- first places
 
-first_place-map : (test : Key → Bool) (other : Row → Bool) → ((r : Row) → test (key_of r) ≡ other r) → (rows : List Row) → first_place test (map key_of rows) ≡ first_place other rows
+first_place-map : (test : RowKey → Bool) (other : Row → Bool) → ((r : Row) → test (key_of r) ≡ other r) → (rows : List Row) → first_place test (map key_of rows) ≡ first_place other rows
 first_place-map test other same [] = refl
 first_place-map test other same (r ∷ rows) = λ i. cond (same r i) (Some 0) (option_map (λ n. n + 1) (first_place-map test other same rows i))
 
@@ -103,10 +103,10 @@ key-at [] k r e = cc
 key-at (s ∷ rows) zero r e = let same : s ≡ r = cc in ap (λ x. Some (key_of x)) same
 key-at (s ∷ rows) (suc k) r e = key-at rows k r e
 
-own_key : (k : Key) → IsTrue (same_key k k)
+own_key : (k : RowKey) → IsTrue (same_key k k)
 own_key k = (eq_by_cmp_equiv key_total).refl k
 
-one_place : (keys : List Key) (j k : ℕ) (q : Key) → EachApart keys → slice_get keys j ≡ Some q → slice_get keys k ≡ Some q → j ≡ k
+one_place : (keys : List RowKey) (j k : ℕ) (q : RowKey) → EachApart keys → slice_get keys j ≡ Some q → slice_get keys k ≡ Some q → j ≡ k
 one_place [] j k q apart e f = cc
 one_place (x ∷ keys) zero zero q apart e f = refl
 one_place (x ∷ keys) zero (suc k) q apart e f = let same : x ≡ q = cc in absurd (none_at (same_key x) keys k q apart.0 f (subst (λ z. IsTrue (same_key x z)) same (own_key x)))
@@ -125,11 +125,11 @@ opposite-has r s h = sym (key_exact (opposite_key r) (key_of s) (opposite-key r 
 
 -- ---- each once, no key stands twice
 
-apart-behind : (keys : List Key) (q : Key) → EachApart keys → first_place (same_key q) keys ≡ None → EachApart (keys ++ q ∷ [])
+apart-behind : (keys : List RowKey) (q : RowKey) → EachApart keys → first_place (same_key q) keys ≡ None → EachApart (keys ++ q ∷ [])
 apart-behind [] q apart e = (refl, tt)
 apart-behind (k ∷ keys) q apart e = go (same_key q k) refl e (λ f. apart-behind keys q apart.1 f)
   where
-    behind : (ks : List Key) → same_key k q ≡ false → first_place (same_key k) ks ≡ None → first_place (same_key k) (ks ++ q ∷ []) ≡ None
+    behind : (ks : List RowKey) → same_key k q ≡ false → first_place (same_key k) ks ≡ None → first_place (same_key k) (ks ++ q ∷ []) ≡ None
     behind [] f g = ap (λ b. cond b (Some 0) None) f
     behind (x ∷ ks) f g = step (same_key k x) g (λ h. behind ks f h)
       where

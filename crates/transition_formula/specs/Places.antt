@@ -15,16 +15,16 @@ use Rattle.linear_terms.specs.Mono.{mono_cmp}
 use Rattle.linear_terms.specs.Polynomial.{Terms, Polynomial}
 
 -- the terms, and of an equation its constant too
-abbrev pub Key : Type 0
-Key = Option ℤ × Terms
+abbrev pub RowKey : Type 0
+RowKey = Option ℤ × Terms
 
 -- the key of a row of the kind with the polynomial
-abbrev pub key_by : Kind → Polynomial → Key
+abbrev pub key_by : Kind → Polynomial → RowKey
 key_by AtMost p = (None, p.terms)
 key_by Equal p = (Some p.rest, p.terms)
 
 -- the key of a row, which it shares with those that are alike
-abbrev pub key_of : Row → Key
+abbrev pub key_of : Row → RowKey
 key_of row = key_by row.kind row.poly
 
 -- an order of terms, by the monomial and then by the coefficient
@@ -32,7 +32,7 @@ abbrev pub term_cmp : List Col × ℤ → List Col × ℤ → Ordering
 term_cmp t u = ordering_then (mono_cmp t.0 u.0) (int_cmp t.1 u.1)
 
 -- an order of keys, by the constant, if there is one, and then by the terms from the first on
-abbrev pub key_cmp : Key → Key → Ordering
+abbrev pub key_cmp : RowKey → RowKey → Ordering
 key_cmp k l = ordering_then (option_cmp int_cmp k.0 l.0) (slice_cmp term_cmp k.1 l.1)
 
 -- the place of the first that passes
@@ -41,11 +41,11 @@ first_place test [] = None
 first_place test (x ∷ xs) = if test x then Some 0 else option_map (λ n. n + 1) (first_place test xs)
 
 -- no key stands twice
-abbrev pub EachApart : List Key → Type 0
+abbrev pub EachApart : List RowKey → Type 0
 EachApart [] = Unit {0}
 EachApart (key ∷ keys) = (first_place (eq_by_cmp key_cmp key) keys ≡ None) × EachApart keys
 
 -- the map has for each key the place of the first row with it
-abbrev pub TellsPlaces : BTreeMap Key ℕ → List Row → Type 0
-TellsPlaces places rows = (key : Key)
+abbrev pub TellsPlaces : BTreeMap RowKey ℕ → List Row → Type 0
+TellsPlaces places rows = (key : RowKey)
     → tree.get key_cmp places key ≡ first_place (eq_by_cmp key_cmp key) (map key_of rows)

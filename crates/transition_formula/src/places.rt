@@ -12,10 +12,10 @@ use std::collections::BTreeMap;
 
 /// What rows have in common that are one but for the constant of an inequality: the terms, and of
 /// an equation its constant too.
-type Key = (Option<i128>, Items<(Mono, i128)>);
+type RowKey = (Option<i128>, Items<(Mono, i128)>);
 
 /// The place of the first row with a key.
-pub(crate) type Places = BTreeMap<Key, usize>;
+pub(crate) type Places = BTreeMap<RowKey, usize>;
 
 /// Each row once, and of inequalities with the same terms the one with the greatest constant; and
 /// where they stand.
@@ -61,7 +61,7 @@ fn put_row(
     Ok(())
 }
 
-fn key_of(alloc: Global, row: &Row) -> Result<Key, AllocError>
+fn key_of(alloc: Global, row: &Row) -> Result<RowKey, AllocError>
     ensures { IfOk result (λ key. key ≡ key_of row.now) }
 {
     let terms = Items::from_vec(Vec::from_slice(alloc, row.poly.terms())?);

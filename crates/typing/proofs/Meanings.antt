@@ -10,7 +10,7 @@ use Rattle.typing.specs.declared.env.Env.{Env}
 use Rattle.typing.specs.declared.env.LoopPlace.{LoopPlace}
 use Rattle.typing.specs.declared.meaning.Meaning.{Meaning}
 use Rattle.typing.specs.declared.meaning.Meaning.TheVariants.{Variable, Procedure}
-use Rattle.typing.specs.declared.meaning.Signature.{Signature}
+use Rattle.typing.specs.declared.meaning.CallSignature.{CallSignature}
 use Rattle.typing.specs.declared.special.Special.{Special}
 use Rattle.typing.specs.CallFaults.{variable_faults}
 use Rattle.typing.specs.Env.{without_scope, with_variable, with_assertions, with_scope, with_place, with_columns_taken}
@@ -19,7 +19,7 @@ use Rattle.typing.specs.Specials.{is_special, special_of}
 use Rattle.typing.proofs.Splits.{not_when}
 
 -- the procedure of a signature stands in the program as it says
-pub record IsKnown (procs : List Proc) (signature : Signature) : Type 0 where
+pub record IsKnown (procs : List Proc) (signature : CallSignature) : Type 0 where
   pub proc : Proc
   pub stands : slice_get procs signature.number ≡ Some proc
   pub params : proc.params ≡ signature.params

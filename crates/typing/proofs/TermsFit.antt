@@ -19,7 +19,7 @@ use Rattle.syntax_tree.proofs.Terms.{term_of-Lit, term_of-Col, term_of-Unary, te
 use Rattle.typing.specs.declared.callee.Callee.{Callee}
 use Rattle.typing.specs.declared.callee.Callee.TheVariants as callee
 use Rattle.typing.specs.declared.env.Env.{Env}
-use Rattle.typing.specs.declared.meaning.Signature.{Signature}
+use Rattle.typing.specs.declared.meaning.CallSignature.{CallSignature}
 use Rattle.typing.specs.CallFaults.{all_expression_faults, expression_faults, joint_faults, may_call, put_faults, value_call_faults, value_faults}
 use Rattle.typing.specs.Calls.{all_calls_in, call_statement, calls_in, put_in, put_temporaries}
 use Rattle.typing.specs.Env.{with_columns_taken}
@@ -126,13 +126,13 @@ arguments_fit es procs width env right f j h r o =
 
 -- ---- calls
 
-pub callee_true : (procs : List Proc) (signature : Signature) (count : ℕ) (awaits : Bool) → IsKnown procs signature → (signature.params == count) ≡ true
+pub callee_true : (procs : List Proc) (signature : CallSignature) (count : ℕ) (awaits : Bool) → IsKnown procs signature → (signature.params == count) ≡ true
     → (signature.returns || not awaits) ≡ true → callee_fits (slice_get procs signature.number) count awaits ≡ true
 callee_true procs signature count awaits k p r =
     ap (λ o. callee_fits o count awaits) k.stands
     ∙ both _ _ (ap (λ (n : ℕ). n == count) k.params ∙ p) (ap (λ (b : Bool). b || not awaits) k.returns ∙ r)
 
-pub may_count : (signature : Signature) (name : List ℕ) (count : ℕ) → not (may_call signature name count) ≡ false → (signature.params == count) ≡ true
+pub may_count : (signature : CallSignature) (name : List ℕ) (count : ℕ) → not (may_call signature name count) ≡ false → (signature.params == count) ≡ true
 may_count signature name count f = right_of _ _ (was_not _ f)
 
 into_true : (width col : ℕ) → col < width → into_fits width (Some col) ≡ true

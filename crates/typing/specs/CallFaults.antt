@@ -13,7 +13,7 @@ use Rattle.typing.specs.declared.env.Env.{Env}
 use Rattle.typing.specs.declared.error.Limited.TheVariants as limited
 use Rattle.typing.specs.declared.error.TypeError.{TypeError}
 use Rattle.typing.specs.declared.error.TypeError.TheVariants.{Unknown, Arity, VoidValue, CallPlace, Many}
-use Rattle.typing.specs.declared.meaning.Signature.{Signature}
+use Rattle.typing.specs.declared.meaning.CallSignature.{CallSignature}
 use Rattle.typing.specs.declared.special.Special.{Special}
 use Rattle.typing.specs.declared.special.Special.TheVariants.{Assert, Assume, Nondet, Error, Abort, Exit}
 use Rattle.typing.specs.Calls.{condition_of}
@@ -36,7 +36,7 @@ abbrev pub slot_faults : Env → ℕ → List TypeError
 slot_faults env at = when (env.next == env.full) (Many limited.Slots at)
 
 -- a call of a procedure: it isn't `main`, and has as many arguments as parameters (C11 6.5.2.2)
-abbrev pub may_call : Signature → List ℕ → ℕ → Bool
+abbrev pub may_call : CallSignature → List ℕ → ℕ → Bool
 may_call signature name count = not (is_main name) && signature.params == count
 
 -- A call with so many arguments, whose value is wanted, and which may stand in the right operand of

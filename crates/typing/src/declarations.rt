@@ -9,7 +9,7 @@ ghost use Rattle.typing.specs.Texts.{bodies, count_bodies, count_globals, declar
 
 use crate::error::{Limited, TypeError};
 use crate::least::note_if;
-use crate::meaning::{Meaning, Signature};
+use crate::meaning::{CallSignature, Meaning};
 use crate::scopes::Scopes;
 use crate::special::{is_main, special_of};
 use crate::sums::sum;
@@ -160,7 +160,7 @@ impl Declarations {
             ++ main_faults at name.now params.now ++ parameter_faults 0 params.now)) }
     {
         self.note_body(name, at, params);
-        let meaning = Meaning::Procedure(Signature {
+        let meaning = Meaning::Procedure(CallSignature {
             number: self.procs,
             params: params.len(),
             returns,

@@ -1,7 +1,7 @@
 /// A procedure as its calls see it: its place among the procedures, how many parameters it has, and
 /// whether it returns a value.
 #[derive(Clone, Copy)]
-pub(crate) struct Signature {
+pub(crate) struct CallSignature {
     pub(crate) number: u32,
     pub(crate) params: usize,
     pub(crate) returns: bool,
@@ -11,5 +11,5 @@ pub(crate) struct Signature {
 #[derive(Clone, Copy)]
 pub(crate) enum Meaning {
     Variable(u32),
-    Procedure(Signature),
+    Procedure(CallSignature),
 }

@@ -49,7 +49,7 @@ fn proc(
 
 /// What stands of a procedure in a text, where its body begins.
 #[derive(Clone, Copy)]
-struct Source<'a> {
+struct ProcText<'a> {
     name: &'a Name,
     returns: bool,
     params: &'a [Param],
@@ -113,7 +113,7 @@ impl Elaborator {
                 ..
             } => {
                 let number = small(checks.len())?;
-                let source = Source {
+                let source = ProcText {
                     name,
                     returns: *returns,
                     params: params.as_slice(),
@@ -131,7 +131,7 @@ impl Elaborator {
         &mut self,
         globals: u32,
         number: u32,
-        source: Source<'_>,
+        source: ProcText<'_>,
     ) -> Result<Proc, AllocError>
         requires { self.old.env.scopes ≡ top self.old.env.scopes ∷ [] }
         ensures scopes { OnOk result (self.new.env.scopes ≡ self.old.env.scopes) }

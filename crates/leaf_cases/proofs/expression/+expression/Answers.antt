@@ -2,7 +2,7 @@ use Rattle.std.proofs.Common.{[], ◌∷◌, refl}
 use Rattle.syntax_tree.specs.Term.{term_of}
 use Rattle.leaf_cases.specs.declared.expression.Sought.TheVariants as sought
 use Rattle.leaf_cases.specs.declared.step.Arithmetic.TheVariants.{Negate}
-use Rattle.leaf_cases.specs.declared.step.Step.TheVariants.{Value}
+use Rattle.leaf_cases.specs.declared.step.CaseStep.TheVariants.{Value}
 use Rattle.leaf_cases.proofs.Ready.{found_ready, found_few, stepped_few, pairs_few, calculated_few}
 use Rattle.leaf_cases.proofs.expression.+expression.Goals as goal
 

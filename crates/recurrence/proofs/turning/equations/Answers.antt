@@ -6,11 +6,11 @@ use Rattle.linear_terms.specs.declared.col.Col.{Col}
 use Rattle.linear_terms.specs.declared.row.Row.{Row}
 use Rattle.transition_formula.specs.Loss.{answer_of, losses_of}
 use Rattle.transition_formula.specs.declared.loss.Loss.{Loss}
-use Rattle.recurrence.specs.declared.terms.Term.{Term}
+use Rattle.recurrence.specs.declared.terms.StratumTerm.{StratumTerm}
 use Rattle.recurrence.specs.Words.{row_of_term}
 use Rattle.recurrence.proofs.turning.equations.Goals as goal
 
-module _ (ms : List (List Col)) (us vs : List ℕ) (terms : List Term) (i : ℕ) (t : Term) (within : i < length terms) (is : t ≡ get_or terms i t) where
+module _ (ms : List (List Col)) (us vs : List ℕ) (terms : List StratumTerm) (i : ℕ) (t : StratumTerm) (within : i < length terms) (is : t ≡ get_or terms i t) where
   here : drop i terms ≡ t ∷ drop (i + 1) terms
   here = drop_more terms i t within ∙ ap (λ q. q ∷ drop (i + 1) terms) (sym is)
 

@@ -2,7 +2,7 @@ use Rattle.std.proofs.Common.{◌≡◌, ℕ, ◌<◌, length, map, List, Option
 use Rattle.std.specs.Option.{IfSome}
 use Rattle.linear_terms.specs.declared.row.Row.{Row}
 use Rattle.linear_terms.specs.Polynomial.{Terms}
-use Rattle.transition_formula.specs.Places.{Key, first_place, key_of}
+use Rattle.transition_formula.specs.Places.{RowKey, first_place, key_of}
 use Rattle.transition_formula.specs.Rows.{are_opposite, negated_terms}
 use Rattle.transition_formula.proofs.AtPlaces.{same_key}
 use Rattle.transition_formula.proofs.Opposites.{opposite_by_key, no_opposite, found_at}
@@ -22,7 +22,7 @@ pub returns-in-Some-clause-first : goal.returns-in-Some-clause-first
 returns-in-Some-clause-first c =
     let row = c.args.row.now in
     let turned : c.in-Some.terms ≡ negated_terms row.poly.terms = turned_terms c.in_ok-terms-in-AtMost.field-0 c.terms.result.now c.in-Some.terms c.in-Some.is c.in_ok-terms-in-AtMost.ensures ∙ ap negated_terms c.terms.ensures.terms in
-    let key : Key = (None, c.in-Some.terms) in
+    let key : RowKey = (None, c.in-Some.terms) in
     c.copied.ensures ∙ c.get.ensures.value ∙ c.requires key
     ∙ ap (λ (ts : Terms). first_place (same_key (None, ts)) (map key_of c.args.rows.now)) turned ∙ opposite_by_key row c.args.rows.now c.in-AtMost.is
 
@@ -30,7 +30,7 @@ pub returns-in-Some-clause-within : goal.returns-in-Some-clause-within
 returns-in-Some-clause-within c =
     let row = c.args.row.now in
     let turned : c.in-Some.terms ≡ negated_terms row.poly.terms = turned_terms c.in_ok-terms-in-AtMost.field-0 c.terms.result.now c.in-Some.terms c.in-Some.is c.in_ok-terms-in-AtMost.ensures ∙ ap negated_terms c.terms.ensures.terms in
-    let key : Key = (None, c.in-Some.terms) in
+    let key : RowKey = (None, c.in-Some.terms) in
     within row c.args.rows.now c.copied.result
     (c.copied.ensures ∙ c.get.ensures.value ∙ c.requires key
     ∙ ap (λ (ts : Terms). first_place (same_key (None, ts)) (map key_of c.args.rows.now)) turned ∙ opposite_by_key row c.args.rows.now c.in-AtMost.is)
