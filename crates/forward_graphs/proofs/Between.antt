@@ -1,24 +1,20 @@
 -- Formulas between vocabularies: settled and fitted ones, sequences and joins.
-use Rattle.std.proofs.Common.{◌≡◌, ℕ, ◌≤◌, ℤ, List, [], ◌∷◌, map, length, refl, sym, ◌∙◌, ap, subst, inl, inr, arith, Ok, Err, Bool, true, false, true≢false}
-use Rattle.std.specs.Prelude.{IsTrue, Result, ◌&&◌, nat_le, nat_lt, if◌then◌else◌}
-use Rattle.std.specs.List.{AllByRecursion, list_all, cons_option}
+use Rattle.std.proofs.Common.{◌≡◌, ◌≤◌, List, map, length, refl, sym, ◌∙◌, ap, subst, arith, Bool, true, false, true≢false}
+use Rattle.std.specs.Prelude.{IsTrue, ◌&&◌, nat_le, nat_lt, if◌then◌else◌}
+use Rattle.std.specs.List.{AllByRecursion, list_all}
 use Rattle.std.proofs.lemmas.Bool.{leb-true, le-leb}
-use Rattle.std.proofs.lemmas.List.Elements.{All-from_recursion, recursion_from_All}
+use Rattle.std.proofs.lemmas.List.Elements.{All-from_recursion}
 use Rattle.std.proofs.lemmas.List.Sums.{count_by-le-length}
-use Rattle.items.proofs.Each.{each-append, each-map, each-flat_map, each-more, each-both, each-any, each_from_test, test_from_each}
-use Rattle.linear_terms.specs.declared.error.TermError.{TermError}
-use Rattle.linear_terms.specs.declared.row.Row.{Row}
+use Rattle.items.proofs.Each.{each-map, each-flat_map, each-more, each-both, each_from_test, test_from_each}
 use Rattle.linear_terms.specs.declared.row.Case.{Case}
-use Rattle.linear_terms.specs.Polynomial.{Polynomial, IsCanonical}
-use Rattle.linear_terms.proofs.Canonical.{IsCanonical-substituted}
-use Rattle.transition_formula.specs.Composition.{Operation, union_of, row_of, rows_by, sequence_of_cases, sequence_of, after_case}
-use Rattle.transition_formula.specs.Meaning.{Holds, Covers}
+use Rattle.transition_formula.specs.Composition.{union_of, sequence_of_cases, sequence_of, after_case}
+use Rattle.transition_formula.specs.Meaning.{Covers}
 use Rattle.transition_formula.specs.Transition.{Transition, IsTransition, IsFitted, IsSolvable, AreSolvable, AreFew, fits, is_fitted}
 use Rattle.transition_formula.proofs.ColumnTests.{both, both_true, lost}
 use Rattle.transition_formula.proofs.FittedFormulas.{fits-solvable}
 use Rattle.transition_formula.proofs.Few.{all_few}
 use Rattle.transition_formula.proofs.Fitting.{below-true, fitting, joined-fits, sequence_of-fits}
-use Rattle.posing.specs.Posing.{Posing, Done, Noted, Asked, Always, ◌>>=◌}
+use Rattle.posing.specs.Posing.{Posing, Done, Noted, Asked, Always}
 use Rattle.posing.proofs.Paths.{always_bind, always_weaker}
 use Rattle.polyhedra.specs.Laws.{HaveCanonicalRows, IsBetween, IsSmall}
 use Rattle.polyhedra.specs.Settle.{settled_formula, settled_cases}
@@ -193,35 +189,6 @@ module _ (from to : Vocabulary) (a b : Transition) (is : AreInSequence from to a
       (λ case h. let few = h.0 in let small = is.second_is.between.few_after in fits-solvable a.from b.to case h.1 (omega arith)) (sequence_of a b).cases
       (each-both IsFewer (λ case. IsTrue (fits a.from b.to case)) (sequence_of a b).cases sequence-fewer
       (each_from_test (fits a.from b.to) (λ case. IsTrue (fits a.from b.to case)) (λ case h. h) (sequence_of a b).cases sequence-between.fits)))
-
--- ---- rows of sequences are in canonical form
-
-abbrev IsCanonicalRow : Row → Type 0
-IsCanonicalRow row = IsCanonical row.poly.terms
-
-abbrev IsCanonicalCase : Case → Type 0
-IsCanonicalCase case = AllByRecursion IsCanonicalRow case.rows
-
-rows_by-canonical : (op : Operation) → ((p r : Polynomial) → op p ≡ Ok r → IsCanonical r.terms) → (rows : List Row) → AllByRecursion IsCanonicalRow (rows_by op rows)
-rows_by-canonical op makes [] = tt
-rows_by-canonical op makes (row ∷ rows) = by_answer (op row.poly) refl (rows_by-canonical op makes rows)
-  where
-    by_answer : (r : Result Polynomial TermError) → op row.poly ≡ r → AllByRecursion IsCanonicalRow (rows_by op rows) → AllByRecursion IsCanonicalRow (cons_option (row_of row.kind r) (rows_by op rows))
-    by_answer (Ok p) e h = (makes row.poly p e, h)
-    by_answer (Err x) e h = h
-
-pair-canonical : (x y : Case) → IsCanonicalCase x → IsCanonicalCase (sequence_of_cases x y)
-pair-canonical x y h =
-    each-append IsCanonicalRow x.rows (rows_by (after_case x y) y.rows) h
-    (rows_by-canonical (after_case x y) (λ p r e. IsCanonical-substituted _ p r e) y.rows)
-
-pub sequence-canonical : (a b : Transition) → HaveCanonicalRows a.cases → HaveCanonicalRows (sequence_of a b).cases
-sequence-canonical a b h =
-    All-from_recursion (λ (case : Case). _) (sequence_of a b).cases
-    (each-more IsCanonicalCase (λ (case : Case). _) (λ case k. All-from_recursion IsCanonicalRow case.rows k) (sequence_of a b).cases
-    (each-flat_map IsCanonicalCase IsCanonicalCase (λ x. map (sequence_of_cases x) b.cases)
-    (λ x k. each-map (λ y. Unit {0}) IsCanonicalCase (sequence_of_cases x) (λ y any. pair-canonical x y k) b.cases (each-any (λ y. Unit {0}) (λ y. tt) b.cases)) a.cases
-    (each-more _ IsCanonicalCase (λ (case : Case) k. recursion_from_All IsCanonicalRow case.rows k) a.cases (recursion_from_All _ a.cases h))))
 
 -- ---- joins
 

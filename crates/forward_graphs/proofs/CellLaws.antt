@@ -2,32 +2,33 @@
 -- the steps from their nodes hold of.
 use Rattle.std.proofs.Common.{◌≡◌, ◌⊎◌, ℕ, zero, suc, ◌<◌, ◌≤◌, ◌+◌, ℤ, List, [], ◌∷◌, ◌++◌, length, drop, get_or, refl, sym, ◌∙◌, ap, subst, inl, inr, arith, Bool, true, false, true≢false, Option, Some, None}
 use Rattle.std.specs.Prelude.{◌==◌, if◌then◌else◌}
-use Rattle.std.specs.List.{AllByRecursion, range_with_len, slice_get}
-use Rattle.std.specs.Option.{unwrap_or}
+use Rattle.std.specs.List.{AllByRecursion, range_with_len}
 use Rattle.std.proofs.lemmas.Bool.{cases_lt, eqb-true, eq-eqb}
 use Rattle.std.proofs.lemmas.List.{length-append}
 use Rattle.std.proofs.lemmas.List.FromFn.{length-range_with_len}
-use Rattle.items.proofs.Each.{each-both, each-front, each-back, each-get}
+use Rattle.items.proofs.Each.{each-both, each-front}
 use Rattle.path_expr.specs.declared.cell.Cell.{Cell}
 use Rattle.path_expr.specs.declared.cell.Cell.TheVariants as known
 use Rattle.transition_formula.specs.Composition.{union_of, sequence_of}
 use Rattle.transition_formula.specs.Meaning.{Holds, Covers}
 use Rattle.transition_formula.specs.Transition.{Transition}
 use Rattle.transition_formula.proofs.Meanings.{sequence-holds, joined-left, joined-right}
-use Rattle.posing.specs.Posing.{Posing, Done, Noted, Always, each, ◌>>=◌}
+use Rattle.posing.specs.Posing.{Posing, Done, Always, ◌>>=◌}
 use Rattle.posing.proofs.Paths.{always_bind, always_weaker, always_each}
 use Rattle.polyhedra.specs.Laws.{HaveCanonicalRows}
 use Rattle.polyhedra.specs.Vocabulary.{Vocabulary}
 use Rattle.forward_graphs.specs.declared.arriving.Arrival.{Arrival}
-use Rattle.forward_graphs.specs.declared.order.End.TheVariants.{Target}
+use Rattle.forward_graphs.specs.declared.order.StepEnd.TheVariants.{Target}
 use Rattle.forward_graphs.specs.declared.step.Step.{Step}
-use Rattle.forward_graphs.specs.Graph.{Graph, vocabulary_at, step_at}
+use Rattle.checked_tree.specs.Graph.{Graph, vocabulary_at}
+use Rattle.forward_graphs.specs.Graph.{step_at}
 use Rattle.forward_graphs.specs.Evaluation.{either_formula, cell_at, sequence_formula, walk_formula, also_found, with_walk, with_arrival, arrival_formula, cell_of, with_node, cells_by}
-use Rattle.forward_graphs.specs.Law.{IsWalkFormula, FitsCell, HoldsCell, IsCanonicalCell, AreCanonicalCells}
+use Rattle.checked_tree.specs.Law.{HoldsCell}
+use Rattle.forward_graphs.specs.Law.{IsWalkFormula, FitsCell, IsCanonicalCell, AreCanonicalCells}
 use Rattle.forward_graphs.specs.Order.{arrivals, numbers_of}
-use Rattle.forward_graphs.specs.UnderWay.{AreSteps, IsStep, IsFound, IsFurther, AreUnderWay, AreInSequence, IsArrival, IsNext}
-use Rattle.forward_graphs.specs.Within.{most_walk_cases, settled_formula_within}
-use Rattle.forward_graphs.proofs.Between.{always-both, always-if, settled-walk, settled-covered, sequence-between, sequence-canonical, sequence-solvable, meet, same-from}
+use Rattle.forward_graphs.specs.UnderWay.{AreSteps, IsFound, IsFurther, AreUnderWay, AreInSequence, IsArrival, IsNext}
+use Rattle.checked_tree.proofs.Between.{sequence-canonical}
+use Rattle.forward_graphs.proofs.Between.{always-both, always-if, settled-walk, settled-covered, sequence-between, sequence-solvable, meet, same-from}
 use Rattle.forward_graphs.proofs.Groups.{IsIn, each-at, each-or, each-number, each-below, in-group, in-range}
 use Rattle.forward_graphs.proofs.StepLaws.{either-walk, either-covered, step-known}
 

@@ -8,9 +8,10 @@ use Rattle.std.proofs.lemmas.List.Elements.{filter_more}
 use Rattle.std.proofs.lemmas.List.FromFn.{length-map-range_with_len, get_or-map-range_with_len, fill_by_all}
 use Rattle.std.proofs.lemmas.Option.{slice_get-get_or, unwrap_or-slice_get}
 use Rattle.items.proofs.Each.{each-append, each-get}
+use Rattle.polyhedra.proofs.Lists.{each-filter, filter-passes}
 use Rattle.forward_graphs.specs.declared.step.Step.{Step}
-use Rattle.forward_graphs.specs.declared.order.End.{End}
-use Rattle.forward_graphs.specs.declared.order.End.TheVariants.{Start, Target}
+use Rattle.forward_graphs.specs.declared.order.StepEnd.{StepEnd}
+use Rattle.forward_graphs.specs.declared.order.StepEnd.TheVariants.{Start, Target}
 use Rattle.forward_graphs.specs.Order.{node_at, numbers_at, numbers_of, groups, numbers_by_node}
 use Rattle.forward_graphs.specs.Placing.{ArePlaced, IsInside, IsPlaced}
 
@@ -27,7 +28,7 @@ range-next n made next is pushed =
 
 -- ---- groups
 
-module _ (nodes : ℕ) (steps : List Step) (end : End) where
+module _ (nodes : ℕ) (steps : List Step) (end : StepEnd) where
   -- those of one number more
   group-more : (numbers : List ℕ) (i number node : ℕ) → i < length numbers → number ≡ get_or numbers i number →
       numbers_at steps end (take (i + 1) numbers) node ≡ numbers_at steps end (take i numbers) node ++ cond (node_at steps end number == node) (number ∷ []) []
@@ -75,14 +76,14 @@ module _ (nodes : ℕ) (steps : List Step) (end : End) where
       each k less = at_here k less (cases_eq k here)
 
 -- no numbers yet
-groups-from : (steps : List Step) (end : End) (a n : ℕ) → replicate n [] ≡ map (numbers_at steps end []) (range_with_len a n)
+groups-from : (steps : List Step) (end : StepEnd) (a n : ℕ) → replicate n [] ≡ map (numbers_at steps end []) (range_with_len a n)
 groups-from steps end a zero = refl
 groups-from steps end a (suc n) = ap (λ rest. [] ∷ rest) (groups-from steps end (a + 1) n)
 
-pub groups-begin : (steps : List Step) (end : End) (nodes : ℕ) (made : List (List ℕ)) → made ≡ replicate nodes [] → made ≡ groups nodes steps end []
+pub groups-begin : (steps : List Step) (end : StepEnd) (nodes : ℕ) (made : List (List ℕ)) → made ≡ replicate nodes [] → made ≡ groups nodes steps end []
 groups-begin steps end nodes made is = is ∙ groups-from steps end 0 nodes
 
-pub groups-length : (nodes : ℕ) (steps : List Step) (end : End) (numbers : List ℕ) (made : List (List ℕ)) → made ≡ groups nodes steps end numbers → length made ≡ nodes
+pub groups-length : (nodes : ℕ) (steps : List Step) (end : StepEnd) (numbers : List ℕ) (made : List (List ℕ)) → made ≡ groups nodes steps end numbers → length made ≡ nodes
 groups-length nodes steps end numbers made is = ap length is ∙ length-map-range_with_len (numbers_at steps end numbers) 0 nodes
 
 -- the numbers of one group more
@@ -92,57 +93,35 @@ concat-next groups i made next group lt is before pushed =
     ap (λ r. r ++ concat (drop (i + 1) groups)) pushed ∙ append_assoc made group (concat (drop (i + 1) groups))
     ∙ ap (λ r. made ++ r) (ap (λ r. r ++ concat (drop (i + 1) groups)) is ∙ sym (ap concat (drop_more groups i group lt))) ∙ before
 
--- the default counts for nothing where there is an element
-pub get-default : {A : Type 0} (xs : List A) (i : ℕ) (d e : A) → i < length xs → get_or xs i d ≡ get_or xs i e
-get-default [] i d e h = absurd (omega (arith, h))
-get-default (x ∷ xs) zero d e h = refl
-get-default (x ∷ xs) (suc i) d e h = get-default xs i d e (omega (arith, h))
-
 pub each-or : {A : Type 0} (P : A → Type 0) (xs : List A) (i : ℕ) (d : A) → AllByRecursion P xs → i < length xs → P (get_or xs i d)
 each-or P xs i d all lt = each-get P xs i (get_or xs i d) all (slice_get-get_or xs i d lt)
 
 -- ---- numbers of steps between nodes
 
-pub placed-within : (nodes : ℕ) (steps : List Step) (end : End) (number : ℕ) → IsPlaced nodes steps number → node_at steps end number < nodes
+pub placed-within : (nodes : ℕ) (steps : List Step) (end : StepEnd) (number : ℕ) → IsPlaced nodes steps number → node_at steps end number < nodes
 placed-within nodes steps Start number is = is.inside.start
 placed-within nodes steps Target number is = is.inside.target
 
 -- ---- what each number is, each number in order is
 
-each-filter : {A : Type 0} (test : A → Bool) (P : A → Type 0) (xs : List A) → AllByRecursion P xs → AllByRecursion P (filter test xs)
-each-filter test P [] all = tt
-each-filter test P (x ∷ xs) all = by_test (test x) (each-filter test P xs all.1)
-  where
-    by_test : (b : Bool) → AllByRecursion P (filter test xs) → AllByRecursion P (cond b (x ∷ filter test xs) (filter test xs))
-    by_test true rest = (all.0, rest)
-    by_test false rest = rest
-
-passing : {A : Type 0} (test : A → Bool) (xs : List A) → AllByRecursion (λ x. test x ≡ true) (filter test xs)
-passing test [] = tt
-passing test (x ∷ xs) = by_test (test x) refl (passing test xs)
-  where
-    by_test : (b : Bool) → test x ≡ b → AllByRecursion (λ y. test y ≡ true) (filter test xs) → AllByRecursion (λ y. test y ≡ true) (cond b (x ∷ filter test xs) (filter test xs))
-    by_test true e rest = (e, rest)
-    by_test false e rest = rest
-
 each-concat : (P : ℕ → Type 0) (f : ℕ → List ℕ) → ((n : ℕ) → AllByRecursion P (f n)) → (ns : List ℕ) → AllByRecursion P (concat (map f ns))
 each-concat P f all [] = tt
 each-concat P f all (n ∷ ns) = each-append P (f n) (concat (map f ns)) (all n) (each-concat P f all ns)
 
-pub each-ordered : (nodes : ℕ) (steps : List Step) (end : End) (P : ℕ → Type 0) (numbers : List ℕ) → AllByRecursion P numbers → AllByRecursion P (numbers_by_node nodes steps end numbers)
+pub each-ordered : (nodes : ℕ) (steps : List Step) (end : StepEnd) (P : ℕ → Type 0) (numbers : List ℕ) → AllByRecursion P numbers → AllByRecursion P (numbers_by_node nodes steps end numbers)
 each-ordered nodes steps end P numbers all =
-    each-concat P (numbers_at steps end numbers) (λ node. each-filter (λ n. node_at steps end n == node) P numbers all) (range_with_len 0 nodes)
+    each-concat P (numbers_at steps end numbers) (λ node. each-filter P (λ n. node_at steps end n == node) numbers all) (range_with_len 0 nodes)
 
 -- the numbers of a node have it at that end
-pub each-at : (steps : List Step) (end : End) (numbers : List ℕ) (node : ℕ) → AllByRecursion (λ n. node_at steps end n ≡ node) (numbers_at steps end numbers node)
-each-at steps end numbers node = all_same (numbers_at steps end numbers node) (passing (λ n. node_at steps end n == node) numbers)
+pub each-at : (steps : List Step) (end : StepEnd) (numbers : List ℕ) (node : ℕ) → AllByRecursion (λ n. node_at steps end n ≡ node) (numbers_at steps end numbers node)
+each-at steps end numbers node = all_same (numbers_at steps end numbers node) (filter-passes (λ n. node_at steps end n == node) numbers)
   where
     all_same : (xs : List ℕ) → AllByRecursion (λ n. (node_at steps end n == node) ≡ true) xs → AllByRecursion (λ n. node_at steps end n ≡ node) xs
     all_same [] all = tt
     all_same (x ∷ xs) all = (eqb-true (node_at steps end x) node all.0, all_same xs all.1)
 
-pub each-number : (steps : List Step) (end : End) (numbers : List ℕ) (node : ℕ) (P : ℕ → Type 0) → AllByRecursion P numbers → AllByRecursion P (numbers_at steps end numbers node)
-each-number steps end numbers node P all = each-filter (λ n. node_at steps end n == node) P numbers all
+pub each-number : (steps : List Step) (end : StepEnd) (numbers : List ℕ) (node : ℕ) (P : ℕ → Type 0) → AllByRecursion P numbers → AllByRecursion P (numbers_at steps end numbers node)
+each-number steps end numbers node P all = each-filter P (λ n. node_at steps end n == node) numbers all
 
 pub each-below : (P : ℕ → Type 0) (a n : ℕ) → ((k : ℕ) → k < a + n → P k) → AllByRecursion P (range_with_len a n)
 each-below P a zero all = tt
@@ -185,13 +164,13 @@ in-concat f n m [] h k = absurd h
 in-concat f n m (x ∷ ns) (inl e) k = in-front n (f x) (concat (map f ns)) (subst (λ y. IsIn n (f y)) e k)
 in-concat f n m (x ∷ ns) (inr h) k = in-back n (f x) (concat (map f ns)) (in-concat f n m ns h k)
 
-pub in-ordered : (nodes : ℕ) (steps : List Step) (end : End) (numbers : List ℕ) (n : ℕ) → node_at steps end n < nodes → IsIn n numbers → IsIn n (numbers_by_node nodes steps end numbers)
+pub in-ordered : (nodes : ℕ) (steps : List Step) (end : StepEnd) (numbers : List ℕ) (n : ℕ) → node_at steps end n < nodes → IsIn n numbers → IsIn n (numbers_by_node nodes steps end numbers)
 in-ordered nodes steps end numbers n lt h =
     in-concat (numbers_at steps end numbers) n (node_at steps end n) (range_with_len 0 nodes)
     (in-range 0 nodes (node_at steps end n) (omega arith) (omega (arith, lt)))
     (in-filter (λ k. node_at steps end k == node_at steps end n) n numbers (eq-eqb (node_at steps end n) (node_at steps end n) refl) h)
 
-pub in-group : (steps : List Step) (end : End) (numbers : List ℕ) (n node : ℕ) → node_at steps end n ≡ node → IsIn n numbers → IsIn n (numbers_at steps end numbers node)
+pub in-group : (steps : List Step) (end : StepEnd) (numbers : List ℕ) (n node : ℕ) → node_at steps end n ≡ node → IsIn n numbers → IsIn n (numbers_at steps end numbers node)
 in-group steps end numbers n node is h = in-filter (λ k. node_at steps end k == node) n numbers (eq-eqb (node_at steps end n) node is) h
 
 pub placed-all : (nodes : ℕ) (steps : List Step) → AllByRecursion (IsInside nodes) steps → ArePlaced nodes steps (numbers_of steps)
@@ -201,5 +180,5 @@ placed-all nodes steps all =
     let within : k < length steps = omega (arith, lt) in
     record { is = within; inside = subst (IsInside nodes) (sym (unwrap_or-slice_get steps k _)) (each-or (IsInside nodes) steps k _ all within) })
 
-pub placed-ordered : (nodes : ℕ) (steps : List Step) (end : End) (numbers : List ℕ) → ArePlaced nodes steps numbers → ArePlaced nodes steps (numbers_by_node nodes steps end numbers)
+pub placed-ordered : (nodes : ℕ) (steps : List Step) (end : StepEnd) (numbers : List ℕ) → ArePlaced nodes steps numbers → ArePlaced nodes steps (numbers_by_node nodes steps end numbers)
 placed-ordered nodes steps end numbers all = each-ordered nodes steps end (IsPlaced nodes steps) numbers all

@@ -1,29 +1,29 @@
 -- The steps of links, and the steps of different ends that they are joined to: they go between the
 -- vocabularies of their nodes, and say no less than the leaves do.
-use Rattle.std.proofs.Common.{◌≡◌, ◌⊎◌, ℕ, suc, ◌<◌, ℤ, List, [], ◌∷◌, ◌++◌, length, refl, sym, ◌∙◌, ap, subst, inl, inr, arith, Bool, true, false, Option, Some, None}
-use Rattle.std.specs.Prelude.{◌==◌, ◌&&◌, option_to_list, IsTrue}
-use Rattle.std.specs.List.{AllByRecursion, range_with_len, slice_get}
+use Rattle.std.proofs.Common.{◌≡◌, ◌⊎◌, ℕ, suc, ◌<◌, List, [], ◌∷◌, ◌++◌, length, refl, sym, subst, inl, inr, arith, Bool, true, false, Option, Some, None}
+use Rattle.std.specs.Prelude.{◌==◌, option_to_list}
+use Rattle.std.specs.List.{AllByRecursion, range_with_len}
 use Rattle.std.proofs.lemmas.Bool.{eqb-true}
 use Rattle.std.proofs.lemmas.Option.{slice_get-get_or, unwrap_or-slice_get}
 use Rattle.items.proofs.Each.{each-append, each-front, each-back, each-get}
 use Rattle.path_expr.specs.declared.link.Link.{Link}
 use Rattle.transition_formula.specs.Composition.{union_of}
-use Rattle.transition_formula.specs.Meaning.{Holds, Covers}
+use Rattle.transition_formula.specs.Meaning.{Covers}
 use Rattle.transition_formula.specs.Transition.{Transition}
 use Rattle.transition_formula.proofs.ColumnTests.{both}
 use Rattle.transition_formula.proofs.Meanings.{joined-left, joined-right}
-use Rattle.posing.specs.Posing.{Posing, Done, Always, each, ◌>>=◌}
+use Rattle.posing.specs.Posing.{Done, Always, each}
 use Rattle.posing.proofs.Paths.{always_bind, always_weaker, always_each}
 use Rattle.polyhedra.specs.Laws.{HaveCanonicalRows}
 use Rattle.polyhedra.specs.Vocabulary.{Vocabulary}
 use Rattle.forward_graphs.specs.declared.joining.Joining.{Joining}
-use Rattle.forward_graphs.specs.declared.order.End.TheVariants.{Start, Target}
+use Rattle.forward_graphs.specs.declared.order.StepEnd.TheVariants.{Start, Target}
 use Rattle.forward_graphs.specs.declared.step.Step.{Step}
-use Rattle.forward_graphs.specs.Graph.{Graph, nothing, link_at, leaf_at, vocabulary_at, step_at}
+use Rattle.checked_tree.specs.Graph.{Graph, nothing, link_at, leaf_at, vocabulary_at}
+use Rattle.forward_graphs.specs.Graph.{step_at}
 use Rattle.forward_graphs.specs.Evaluation.{step_of, leaf_formula, with_leaf, leaf_steps, either_formula, have_same_ends, joining_of, joining_behind, joining_after, with_joined, all_steps, no_steps, joined_steps}
 use Rattle.forward_graphs.specs.Law.{IsForward, IsWalkFormula, HaveCanonicalLeaves}
 use Rattle.forward_graphs.specs.Order.{numbers_by_node, numbers_of, in_order}
-use Rattle.forward_graphs.specs.Placing.{IsInside}
 use Rattle.forward_graphs.specs.UnderWay.{IsReadyLink, AreReadyLinks, IsStep, AreSteps}
 use Rattle.forward_graphs.proofs.Between.{always-both, always-if, settled-walk, settled-covered, fitted-walk, fitted-covered, either-between, same-from}
 use Rattle.forward_graphs.proofs.Groups.{IsIn, in-range, in-ordered, each-ordered, each-below}

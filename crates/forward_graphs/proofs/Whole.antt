@@ -1,6 +1,6 @@
 -- The laws of an evaluation, whole.
-use Rattle.std.proofs.Common.{◌≡◌, ◌⊎◌, ℕ, ◌<◌, ◌+◌, ℤ, List, [], ◌∷◌, length, refl, sym, ◌∙◌, ap, subst, inl, inr, arith, Some}
-use Rattle.std.specs.List.{AllByRecursion, slice_get}
+use Rattle.std.proofs.Common.{◌≡◌, ◌⊎◌, ℕ, ◌<◌, ℤ, List, [], ◌∷◌, length, refl, sym, ◌∙◌, ap, subst, inl, inr, arith, Some}
+use Rattle.std.specs.List.{slice_get}
 use Rattle.std.specs.Option.{unwrap_or}
 use Rattle.std.proofs.lemmas.Option.{slice_get_within}
 use Rattle.path_expr.specs.declared.cell.Cell.{Cell}
@@ -9,13 +9,15 @@ use Rattle.path_expr.specs.declared.link.Link.{Link}
 use Rattle.path_expr.specs.Walks.{IsWalk}
 use Rattle.transition_formula.specs.Meaning.{Holds}
 use Rattle.transition_formula.specs.Transition.{Transition}
-use Rattle.posing.specs.Posing.{Done, Always, ◌>>=◌}
+use Rattle.posing.specs.Posing.{Always, ◌>>=◌}
 use Rattle.posing.proofs.Paths.{always_bind, always_weaker}
 use Rattle.forward_graphs.specs.declared.step.Step.{Step}
-use Rattle.forward_graphs.specs.Graph.{Graph, link_at, leaf_at, vocabulary_at, step_at}
+use Rattle.checked_tree.specs.Graph.{Graph, link_at, leaf_at, vocabulary_at}
+use Rattle.forward_graphs.specs.Graph.{step_at}
 use Rattle.forward_graphs.specs.Evaluation.{cell_at, cells_by, joined_steps, leaf_steps, walk_cells}
-use Rattle.forward_graphs.specs.Law.{IsForward, IsRun, HoldsCell, CellsHold, FitsCell, AreFittedCells, HaveCanonicalLeaves, AreCanonicalCells, EvaluationHolds, EvaluationFits}
-use Rattle.forward_graphs.specs.UnderWay.{AreSteps, IsStep}
+use Rattle.checked_tree.specs.Law.{IsRun, HoldsCell}
+use Rattle.forward_graphs.specs.Law.{IsForward, CellsHold, FitsCell, AreFittedCells, HaveCanonicalLeaves, AreCanonicalCells, EvaluationHolds, EvaluationFits}
+use Rattle.forward_graphs.specs.UnderWay.{AreSteps}
 use Rattle.forward_graphs.proofs.StepLaws.{KeepsLeaves, AreJoined, IsCovered, SaysNoLess, leaves-keep, joined-keep, some-found, some-more, step-known}
 use Rattle.forward_graphs.proofs.Groups.{IsIn}
 use Rattle.forward_graphs.proofs.CellLaws.{KeepsCells, cells-keep}

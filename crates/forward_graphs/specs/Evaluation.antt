@@ -13,7 +13,8 @@ use Rattle.posing.specs.Posing.{Posing, Done, Noted, ◌>>=◌, each}
 use Rattle.polyhedra.specs.Vocabulary.{Vocabulary}
 use Rattle.forward_graphs.specs.declared.joining.Joining.{Joining}
 use Rattle.forward_graphs.specs.declared.step.Step.{Step}
-use Rattle.forward_graphs.specs.Graph.{Graph, link_at, leaf_at, vocabulary_at, step_at}
+use Rattle.checked_tree.specs.Graph.{Graph, link_at, leaf_at, vocabulary_at}
+use Rattle.forward_graphs.specs.Graph.{step_at}
 use Rattle.forward_graphs.specs.Order.{arrivals, in_order}
 use Rattle.forward_graphs.specs.Within.{most_walk_cases, fitted_formula_within, settled_formula_within}
 

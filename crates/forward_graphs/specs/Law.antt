@@ -1,16 +1,16 @@
 -- What an evaluation keeps, whatever the answers are, as long as they are true.
-use Rattle.std.specs.Prelude.{◌≡◌, ◌<◌, ℕ, ℤ, List, [], ◌∷◌, All, Some, length}
+use Rattle.std.specs.Prelude.{◌≡◌, ◌<◌, ℕ, ℤ, List, All, Some, length}
 use Rattle.std.specs.List.{AllByRecursion, slice_get}
 use Rattle.path_expr.specs.declared.cell.Cell.{Cell}
 use Rattle.path_expr.specs.declared.cell.Cell.TheVariants as known
 use Rattle.path_expr.specs.declared.link.Link.{Link}
 use Rattle.path_expr.specs.Walks.{IsWalk}
-use Rattle.transition_formula.specs.Meaning.{Holds}
 use Rattle.transition_formula.specs.Transition.{Transition, AreSolvable}
 use Rattle.posing.specs.Posing.{Always}
 use Rattle.polyhedra.specs.Laws.{HaveCanonicalRows, IsBetween}
 use Rattle.polyhedra.specs.Vocabulary.{Vocabulary}
-use Rattle.forward_graphs.specs.Graph.{Graph, link_at, leaf_at, vocabulary_at}
+use Rattle.checked_tree.specs.Graph.{Graph, link_at, leaf_at, vocabulary_at}
+use Rattle.checked_tree.specs.Law.{IsRun, HoldsCell}
 use Rattle.forward_graphs.specs.Evaluation.{walk_cells}
 use Rattle.forward_graphs.specs.Within.{IsWithin}
 
@@ -35,18 +35,6 @@ pub record IsForward (g : Graph) (source : ℕ) : Type 0 where
   pub source_is : source < length g.nodes
 
 -- ---- runs along walks
-
--- the leaves of these links hold of states that follow one another
-abbrev pub IsRun : Graph → List ℕ → List ℤ → List ℤ → Type 0
-IsRun g [] before after = before ≡ after
-IsRun g (number ∷ numbers) before after =
-    (next : List ℤ) × Holds (leaf_at g number) before next × IsRun g numbers next after
-
--- what a cell says of two states
-abbrev pub HoldsCell : Cell Transition → List ℤ → List ℤ → Type 0
-HoldsCell known.Zero before after = ⊥
-HoldsCell known.One before after = before ≡ after
-HoldsCell (known.Item f) before after = Holds f before after
 
 -- the cell of each node holds of each run along a walk from the source to it
 abbrev pub CellsHold : Graph → ℕ → List (Cell Transition) → Type 0

@@ -2,29 +2,29 @@
 use Rattle.std.specs.Prelude.{ℕ, List, map, length, ◌==◌}
 use Rattle.std.specs.List.{concat, filter, range_with_len}
 use Rattle.forward_graphs.specs.declared.step.Step.{Step}
-use Rattle.forward_graphs.specs.declared.order.End.{End}
-use Rattle.forward_graphs.specs.declared.order.End.TheVariants.{Start, Target}
+use Rattle.forward_graphs.specs.declared.order.StepEnd.{StepEnd}
+use Rattle.forward_graphs.specs.declared.order.StepEnd.TheVariants.{Start, Target}
 use Rattle.forward_graphs.specs.Graph.{step_at}
 
 -- the node at an end of a step
-abbrev pub node_of : End → Step → ℕ
+abbrev pub node_of : StepEnd → Step → ℕ
 node_of Start step = step.from
 node_of Target step = step.to
 
 -- the node at an end of the step of a number
-abbrev pub node_at : List Step → End → ℕ → ℕ
+abbrev pub node_at : List Step → StepEnd → ℕ → ℕ
 node_at steps end number = node_of end (step_at steps number)
 
 -- those numbers whose steps have a node at an end, in their order
-abbrev pub numbers_at : List Step → End → List ℕ → ℕ → List ℕ
+abbrev pub numbers_at : List Step → StepEnd → List ℕ → ℕ → List ℕ
 numbers_at steps end numbers node = filter (λ number. node_at steps end number == node) numbers
 
 -- these for each node, from node 0 on
-abbrev pub groups : ℕ → List Step → End → List ℕ → List (List ℕ)
+abbrev pub groups : ℕ → List Step → StepEnd → List ℕ → List (List ℕ)
 groups nodes steps end numbers = map (numbers_at steps end numbers) (range_with_len 0 nodes)
 
 -- the numbers in ascending order of the node at an end; those of one node in their order
-abbrev pub numbers_by_node : ℕ → List Step → End → List ℕ → List ℕ
+abbrev pub numbers_by_node : ℕ → List Step → StepEnd → List ℕ → List ℕ
 numbers_by_node nodes steps end numbers = concat (groups nodes steps end numbers)
 
 -- the numbers of all steps

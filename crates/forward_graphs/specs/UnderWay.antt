@@ -2,7 +2,6 @@
 use Rattle.std.specs.Prelude.{◌≡◌, ◌<◌, ℕ, List, Option, None, Some, length}
 use Rattle.std.specs.List.{AllByRecursion}
 use Rattle.path_expr.specs.declared.cell.Cell.{Cell}
-use Rattle.path_expr.specs.declared.cell.Cell.TheVariants as known
 use Rattle.transition_formula.specs.Transition.{Transition}
 use Rattle.polyhedra.specs.Vocabulary.{Vocabulary}
 use Rattle.forward_graphs.specs.declared.arriving.Arrival.{Arrival}
@@ -10,7 +9,8 @@ use Rattle.forward_graphs.specs.declared.arriving.Walks.{Walks}
 use Rattle.forward_graphs.specs.declared.joining.Joining.{Joining}
 use Rattle.forward_graphs.specs.declared.step.Step.{Step}
 use Rattle.forward_graphs.specs.Evaluation.{all_steps, cell_at}
-use Rattle.forward_graphs.specs.Graph.{Graph, graph_in, link_at, step_at, vocabulary_at}
+use Rattle.checked_tree.specs.Graph.{Graph, link_at, vocabulary_at}
+use Rattle.forward_graphs.specs.Graph.{graph_in, step_at}
 use Rattle.forward_graphs.specs.Law.{IsLeaf, IsWalkFormula, FitsCell}
 
 -- the first formula goes to a vocabulary that the second one goes on from

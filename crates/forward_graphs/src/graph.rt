@@ -1,5 +1,6 @@
 ghost use Rattle.std.specs.Prelude.{◌≡◌, ◌<◌, length};
-ghost use Rattle.forward_graphs.specs.Graph.{graph_in, leaf_at, link_at, vocabulary_at};
+ghost use Rattle.checked_tree.specs.Graph.{leaf_at, link_at, vocabulary_at};
+ghost use Rattle.forward_graphs.specs.Graph.{graph_in};
 
 use path_expr::Link;
 use polyhedra::Vocabulary;

@@ -3,7 +3,8 @@ ghost use Rattle.std.specs.List.{AllByRecursion};
 ghost use Rattle.posing.specs.Follows.{Asks};
 ghost use Rattle.posing.specs.Posing.{each};
 ghost use Rattle.forward_graphs.specs.Evaluation.{all_steps, either_formula, have_same_ends, joining_after, joining_behind, joined_steps, joining_of, no_steps, with_joined};
-ghost use Rattle.forward_graphs.specs.Graph.{graph_in, vocabulary_at};
+ghost use Rattle.checked_tree.specs.Graph.{vocabulary_at};
+ghost use Rattle.forward_graphs.specs.Graph.{graph_in};
 ghost use Rattle.forward_graphs.specs.UnderWay.{AreSteps, IsJoinable, IsStep};
 
 use crate::fitting::{Ends, either};

@@ -15,6 +15,6 @@ mod walking;
 pub use graph::ForwardGraph;
 pub use joining::Joining;
 pub use law::evaluation_covers_walks;
-pub use order::End;
+pub use order::StepEnd;
 pub use step::Step;
 pub use walking::walk_cells;

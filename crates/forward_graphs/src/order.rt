@@ -9,7 +9,7 @@ use std::alloc::{AllocError, Global};
 
 /// An end of a step.
 #[derive(Clone, Copy, Debug, PartialEq, Eq)]
-pub enum End {
+pub enum StepEnd {
     /// The node that it starts at.
     Start,
     /// The node that it leads to.
@@ -28,9 +28,9 @@ pub(crate) fn in_order(
     ensures { IfOk result (λ order. order ≡ in_order nodes steps.now) }
 {
     let numbers = numbers_below(alloc, steps.len())?;
-    let by_target = groups(alloc, nodes, steps, End::Target, numbers.as_slice())?;
+    let by_target = groups(alloc, nodes, steps, StepEnd::Target, numbers.as_slice())?;
     let targets = concatenation(alloc, by_target.as_slice())?;
-    let by_start = groups(alloc, nodes, steps, End::Start, targets.as_slice())?;
+    let by_start = groups(alloc, nodes, steps, StepEnd::Start, targets.as_slice())?;
     concatenation(alloc, by_start.as_slice())
 }
 
@@ -39,7 +39,7 @@ pub(crate) fn groups(
     alloc: Global,
     nodes: usize,
     steps: &[Step],
-    end: End,
+    end: StepEnd,
     numbers: &[usize],
 ) -> Result<Items<Items<usize>>, AllocError>
     requires { ArePlaced nodes steps.now numbers.now }
@@ -53,14 +53,14 @@ pub(crate) fn groups(
     Ok(made)
 }
 
-fn node_at(steps: &[Step], end: End, number: usize) -> usize
+fn node_at(steps: &[Step], end: StepEnd, number: usize) -> usize
     requires { number < length steps.now }
     ensures { result ≡ node_at steps.now end number }
 {
     let step = step_at(steps, number);
     match end {
-        End::Start => step.from as usize,
-        End::Target => step.to as usize,
+        StepEnd::Start => step.from as usize,
+        StepEnd::Target => step.to as usize,
     }
 }
 

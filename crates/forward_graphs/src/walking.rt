@@ -14,7 +14,7 @@ use crate::arriving::{Walks, with_node};
 use crate::graph::ForwardGraph;
 use crate::joining::joined_steps;
 use crate::leaves::leaf_steps;
-use crate::order::{End, groups, numbers_below};
+use crate::order::{StepEnd, groups, numbers_below};
 use farkas_check::Oracle;
 use items::Items;
 use linear_terms::{Case, see_rows};
@@ -126,7 +126,13 @@ fn cells_by<O: Oracle>(
 {
     let count = walks.graph.nodes.len();
     let numbers = numbers_below(alloc, walks.steps.len())?;
-    let by_target = groups(alloc, count, walks.steps, End::Target, numbers.as_slice())?;
+    let by_target = groups(
+        alloc,
+        count,
+        walks.steps,
+        StepEnd::Target,
+        numbers.as_slice(),
+    )?;
     let nodes = numbers_below(alloc, count)?;
     cells_of(
         alloc,

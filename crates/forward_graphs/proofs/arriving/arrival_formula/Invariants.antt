@@ -2,7 +2,7 @@ use Rattle.std.proofs.Common.{None, drop}
 use Rattle.posing.specs.Follows.{Leads}
 use Rattle.posing.specs.Posing.{each}
 use Rattle.forward_graphs.specs.Evaluation.{with_arrival}
-use Rattle.forward_graphs.specs.Graph.{vocabulary_at}
+use Rattle.checked_tree.specs.Graph.{vocabulary_at}
 use Rattle.forward_graphs.specs.UnderWay.{graph_of, IsFound}
 use Rattle.forward_graphs.proofs.arriving.arrival_formula.Given as goal
 

@@ -8,7 +8,7 @@ use Rattle.posing.proofs.Following.{stops}
 use Rattle.posing.proofs.Steps.{at_end, error_first, in_other_words, value_first}
 use Rattle.forward_graphs.specs.declared.step.Step.{Step}
 use Rattle.forward_graphs.specs.Evaluation.{arrival_formula, cell_of, with_node}
-use Rattle.forward_graphs.specs.Graph.{Graph}
+use Rattle.checked_tree.specs.Graph.{Graph}
 use Rattle.forward_graphs.specs.UnderWay.{graph_of, AreUnderWay}
 use Rattle.forward_graphs.proofs.arriving.with_node.Goals as goal
 

@@ -1,4 +1,5 @@
-use Rattle.std.proofs.Common.{◌<◌, length, drop, get_or, sym, subst}
+use Rattle.std.proofs.Common.{◌<◌, length, get_or, sym, subst}
+use Rattle.std.proofs.lemmas.List.{get_or_default}
 use Rattle.posing.specs.Follows.{Leads}
 use Rattle.posing.specs.Posing.{each}
 use Rattle.posing.proofs.Following.{leads_none}
@@ -6,8 +7,8 @@ use Rattle.posing.proofs.Steps.{each_next, each_fails, value_has}
 use Rattle.forward_graphs.specs.declared.joining.Joining.{Joining}
 use Rattle.forward_graphs.specs.Evaluation.{all_steps, no_steps, with_joined}
 use Rattle.forward_graphs.specs.Graph.{graph_in}
-use Rattle.forward_graphs.specs.UnderWay.{AreSteps, IsJoinable}
-use Rattle.forward_graphs.proofs.Groups.{each-or, get-default}
+use Rattle.forward_graphs.specs.UnderWay.{AreSteps}
+use Rattle.forward_graphs.proofs.Groups.{each-or}
 use Rattle.forward_graphs.proofs.StepLaws.{joined-known}
 use Rattle.forward_graphs.proofs.joining.all_joined.Goals as goal
 
@@ -27,12 +28,12 @@ with_joined-requires g c = record {
 
 pub returns-in_err-joining : goal.returns-in_err-joining
 returns-in_err-joining g c =
-    each_fails (with_joined (graph_in c.args.graph) c.args.steps.now) _ _ c.loop-number.invariant.0 c.loop-number-test.true (get-default c.args.order.now c.loop-number.number-index _ _ c.loop-number-test.true)
+    each_fails (with_joined (graph_in c.args.graph) c.args.steps.now) _ _ c.loop-number.invariant.0 c.loop-number-test.true (get_or_default c.args.order.now c.loop-number.number-index _ _ c.loop-number-test.true)
     c.in_err-joining.ensures c.from_residual.ensures.1
 
 pub loop-number-preserved : goal.loop-number-preserved
 loop-number-preserved g c = (
-  each_next (with_joined (graph_in c.args.graph) c.args.steps.now) _ _ c.loop-number.invariant.0 c.loop-number-test.true (get-default c.args.order.now c.loop-number.number-index _ _ c.loop-number-test.true)
+  each_next (with_joined (graph_in c.args.graph) c.args.steps.now) _ _ c.loop-number.invariant.0 c.loop-number-test.true (get_or_default c.args.order.now c.loop-number.number-index _ _ c.loop-number-test.true)
       c.in_ok-joining.ensures,
   value_has (λ next. AreSteps (graph_in c.args.graph) (all_steps next)) c.in_ok-joining.ensures
       (joined-known (graph_in c.args.graph) c.args.steps.now c.requires.steps (get_or c.args.order.now c.loop-number.number-index 0) c.loop-number.joining

@@ -1,4 +1,5 @@
 use Rattle.std.proofs.Common.{[], sym, subst}
+use Rattle.std.proofs.lemmas.List.{get_or_default}
 use Rattle.posing.specs.Follows.{Leads}
 use Rattle.posing.specs.Posing.{each}
 use Rattle.posing.proofs.Following.{leads_none}
@@ -6,7 +7,7 @@ use Rattle.posing.proofs.Steps.{each_next, each_fails}
 use Rattle.forward_graphs.specs.Evaluation.{with_leaf}
 use Rattle.forward_graphs.specs.Graph.{graph_in}
 use Rattle.forward_graphs.specs.UnderWay.{IsReadyLink}
-use Rattle.forward_graphs.proofs.Groups.{each-or, get-default}
+use Rattle.forward_graphs.proofs.Groups.{each-or}
 use Rattle.forward_graphs.proofs.leaves.steps_of.Goals as goal
 
 pub loop-number-init : goal.loop-number-init
@@ -20,9 +21,9 @@ with_leaf-requires g c = each-or (IsReadyLink (graph_in c.args.graph)) c.args.nu
 
 pub returns-in_err-made : goal.returns-in_err-made
 returns-in_err-made g c =
-    each_fails (with_leaf (graph_in c.args.graph)) _ _ c.loop-number.invariant c.loop-number-test.true (get-default c.args.numbers.now c.loop-number.number-index _ _ c.loop-number-test.true) c.in_err-made.ensures
+    each_fails (with_leaf (graph_in c.args.graph)) _ _ c.loop-number.invariant c.loop-number-test.true (get_or_default c.args.numbers.now c.loop-number.number-index _ _ c.loop-number-test.true) c.in_err-made.ensures
     c.from_residual.ensures.1
 
 pub loop-number-preserved : goal.loop-number-preserved
 loop-number-preserved g c =
-    each_next (with_leaf (graph_in c.args.graph)) _ _ c.loop-number.invariant c.loop-number-test.true (get-default c.args.numbers.now c.loop-number.number-index _ _ c.loop-number-test.true) c.in_ok-made.ensures
+    each_next (with_leaf (graph_in c.args.graph)) _ _ c.loop-number.invariant c.loop-number-test.true (get_or_default c.args.numbers.now c.loop-number.number-index _ _ c.loop-number-test.true) c.in_ok-made.ensures

@@ -2,7 +2,8 @@ use Rattle.std.proofs.Common.{[], ◌∷◌, ◌++◌, ap, refl, ◌∙◌}
 use Rattle.posing.specs.Posing.{Done}
 use Rattle.posing.proofs.Steps.{at_end, value_first}
 use Rattle.forward_graphs.specs.Evaluation.{step_of, with_leaf}
-use Rattle.forward_graphs.specs.Graph.{graph_in, link_at}
+use Rattle.checked_tree.specs.Graph.{link_at}
+use Rattle.forward_graphs.specs.Graph.{graph_in}
 use Rattle.forward_graphs.proofs.leaves.with_leaf.Goals as goal
 
 pub returns : goal.returns

@@ -1,7 +1,7 @@
-use Rattle.std.proofs.Common.{◌<◌, get_or, length, sym, subst, ◌∙◌, take}
+use Rattle.std.proofs.Common.{◌<◌, get_or, sym, subst, take}
+use Rattle.std.proofs.lemmas.List.{get_or_default}
 use Rattle.forward_graphs.specs.Placing.{IsPlaced}
-use Rattle.forward_graphs.specs.Order.{node_at}
-use Rattle.forward_graphs.proofs.Groups.{each-or, get-default, groups-begin, groups-length, groups-next, placed-within}
+use Rattle.forward_graphs.proofs.Groups.{each-or, groups-begin, groups-length, groups-next, placed-within}
 use Rattle.forward_graphs.proofs.order.groups.Goals as goal
 
 pub loop-number-init : goal.loop-number-init
@@ -17,7 +17,7 @@ with_number-requires c =
 pub loop-number-preserved : goal.loop-number-preserved
 loop-number-preserved c =
     groups-next c.args.nodes c.args.steps.now c.args.end c.args.numbers.now c.loop-number.number-index (get_or c.args.numbers.now c.loop-number.number-index 0) c.node_at-node.result c.loop-number.made
-    c.in_ok-made-2.made c.loop-number-test.true (get-default c.args.numbers.now c.loop-number.number-index 0 _ c.loop-number-test.true) c.node_at-node.ensures
+    c.in_ok-made-2.made c.loop-number-test.true (get_or_default c.args.numbers.now c.loop-number.number-index 0 _ c.loop-number-test.true) c.node_at-node.ensures
     (placed-within c.args.nodes c.args.steps.now c.args.end (get_or c.args.numbers.now c.loop-number.number-index 0)
     (each-or (IsPlaced c.args.nodes c.args.steps.now) c.args.numbers.now c.loop-number.number-index 0 c.requires c.loop-number-test.true))
     c.loop-number.invariant c.in_ok-made-2.ensures

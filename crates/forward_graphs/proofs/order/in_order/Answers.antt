@@ -1,6 +1,6 @@
 use Rattle.std.specs.List.{concat}
 use Rattle.std.proofs.Common.{subst, sym, ap, ◌∙◌}
-use Rattle.forward_graphs.specs.declared.order.End.TheVariants.{Target}
+use Rattle.forward_graphs.specs.declared.order.StepEnd.TheVariants.{Target}
 use Rattle.forward_graphs.specs.Placing.{ArePlaced}
 use Rattle.forward_graphs.proofs.Groups.{placed-all, placed-ordered}
 use Rattle.forward_graphs.proofs.order.in_order.Goals as goal

@@ -2,7 +2,7 @@ use Rattle.std.proofs.Common.{[], length, ap, subst, sym, ◌∙◌}
 use Rattle.items.proofs.Each.{each-more}
 use Rattle.posing.specs.Posing.{each}
 use Rattle.posing.proofs.Steps.{in_other_words}
-use Rattle.forward_graphs.specs.declared.order.End.TheVariants.{Target}
+use Rattle.forward_graphs.specs.declared.order.StepEnd.TheVariants.{Target}
 use Rattle.forward_graphs.specs.Evaluation.{cells_by, with_node}
 use Rattle.forward_graphs.specs.Order.{groups}
 use Rattle.forward_graphs.specs.Placing.{ArePlaced, IsInside}

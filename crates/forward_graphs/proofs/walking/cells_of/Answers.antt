@@ -1,4 +1,5 @@
 use Rattle.std.proofs.Common.{◌<◌, ◌+◌, [], List, length, drop, get_or, sym, subst, ap, ◌∙◌, arith}
+use Rattle.std.proofs.lemmas.List.{get_or_default}
 use Rattle.std.proofs.lemmas.List.{drop_more}
 use Rattle.std.proofs.lemmas.List.FromFn.{get_or-map-range_with_len, length-map-range_with_len}
 use Rattle.path_expr.specs.declared.cell.Cell.{Cell}
@@ -11,7 +12,6 @@ use Rattle.forward_graphs.specs.Evaluation.{with_node}
 use Rattle.forward_graphs.specs.Order.{arrivals}
 use Rattle.forward_graphs.specs.UnderWay.{graph_of}
 use Rattle.forward_graphs.proofs.CellLaws.{KeepsCells, before-known, cells-begin, with_node-keeps}
-use Rattle.forward_graphs.proofs.Groups.{get-default}
 use Rattle.forward_graphs.proofs.walking.cells_of.Goals as goal
 
 pub loop-node-init : goal.loop-node-init
@@ -53,13 +53,13 @@ with_node-requires-clause-numbers g c =
 pub returns-in_err-cells : goal.returns-in_err-cells
 returns-in_err-cells g c =
     each_fails (with_node (graph_of c.args.walks) c.args.walks.source c.args.walks.steps.now) _ _ c.loop-node.invariant.0 c.loop-node-test.true
-    (get-default c.args.nodes.now c.loop-node.node-index _ _ c.loop-node-test.true) c.in_err-cells.ensures c.from_residual.ensures.1
+    (get_or_default c.args.nodes.now c.loop-node.node-index _ _ c.loop-node-test.true) c.in_err-cells.ensures c.from_residual.ensures.1
 
 pub loop-node-preserved : goal.loop-node-preserved
 loop-node-preserved g c =
     let kept = subst (λ nodes. KeepsCells (graph_of c.args.walks) c.args.walks.source c.args.walks.steps.now nodes c.loop-node.cells) (drop_more c.args.nodes.now c.loop-node.node-index 0 c.loop-node-test.true) c.loop-node.invariant.1 in (
       each_next (with_node (graph_of c.args.walks) c.args.walks.source c.args.walks.steps.now) _ _ c.loop-node.invariant.0 c.loop-node-test.true
-          (get-default c.args.nodes.now c.loop-node.node-index _ _ c.loop-node-test.true) c.in_ok-cells.ensures,
+          (get_or_default c.args.nodes.now c.loop-node.node-index _ _ c.loop-node-test.true) c.in_ok-cells.ensures,
       value_has (KeepsCells (graph_of c.args.walks) c.args.walks.source c.args.walks.steps.now (drop (c.loop-node.node-index + 1) c.args.nodes.now)) c.in_ok-cells.ensures
           (with_node-keeps (graph_of c.args.walks) c.args.walks.source c.requires.source c.args.walks.steps.now c.requires.steps (get_or c.args.nodes.now c.loop-node.node-index 0)
           (drop (c.loop-node.node-index + 1) c.args.nodes.now) c.loop-node.cells kept),

@@ -1,5 +1,4 @@
-use Rattle.std.proofs.Common.{subst, sym}
-use Rattle.std.proofs.lemmas.Result.{IfOk-weaker}
+use Rattle.std.proofs.Common.{subst}
 use Rattle.posing.proofs.Steps.{value_has}
 use Rattle.forward_graphs.specs.Graph.{graph_in}
 use Rattle.forward_graphs.specs.Law.{AreCanonicalCells, AreFittedCells, CellsHold}
