@@ -1,14 +1,13 @@
 -- What is kept from point to point is true: by induction on the height of the trees of calls, along
 -- walks, and then along the stack.
-use Rattle.std.proofs.Common.{◌≡◌, ℕ, zero, suc, ℤ, length, take, List, [], ◌∷◌, ◌++◌, Option, Some, refl, sym, ap, subst, ◌∙◌, arith}
+use Rattle.std.proofs.Common.{◌≡◌, ℕ, zero, suc, ℤ, length, take, List, [], ◌∷◌, ◌++◌, Option, Some, refl, sym, subst}
 use Rattle.std.specs.Prelude.{Bool, true, false, ◌==◌, ◌||◌, slice_get}
 use Rattle.std.proofs.lemmas.List.{take_at}
-use Rattle.syntax_tree.specs.declared.program.Proc.{Proc}
 use Rattle.syntax_tree.specs.declared.program.Program.{Program}
 use Rattle.syntax_tree.specs.Code.{Statement, Set, Any, Call, Guard, Check, If, Loop, Break, Continue, Return}
 use Rattle.syntax_tree.specs.Term.{Term}
 use Rattle.syntax_tree.specs.Value.{State}
-use Rattle.execution.specs.Execution.{Returns, initial_globals}
+use Rattle.execution.specs.Execution.{Returns}
 use Rattle.execution.specs.Machine.{Do, Frame, Item}
 use Rattle.execution.specs.Step.{values_of}
 use Rattle.flow_graph.specs.FlowGraph.{Arc, body_of, exit_of}
@@ -19,7 +18,7 @@ use Rattle.flow_graph.specs.Walks.{CallMeaning, EdgeRelates, Stands, Stride, Wal
 use Rattle.flow_graph.proofs.Heights.{returns_have_heights}
 use Rattle.flow_graph.proofs.Theorems.{calls_are_walks}
 use Rattle.point_induction.specs.Points.{is_head, is_point}
-use Rattle.point_induction.specs.Induction.{AreKept, AreTrue, IsFirstState, AreBegun, ArePassed, IsSaidOfFirst, KeptSayingsAreTrue, PassageSaid, ReturnsSaid, Sayings, arcs_of, start_of}
+use Rattle.point_induction.specs.Induction.{AreKept, IsFirstState, AreBegun, ArePassed, IsSaidOfFirst, KeptSayingsAreTrue, PassageSaid, ReturnsSaid, Sayings, arcs_of, start_of}
 use Rattle.point_induction.proofs.Passages.{passage-more, passage-none, passage-to_point}
 
 module _ (program : Program) (say : Sayings) (kept : AreKept program say) where

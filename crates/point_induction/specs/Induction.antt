@@ -13,8 +13,8 @@ use Rattle.execution.specs.Step.{IsTrueIn, values_of}
 use Rattle.flow_graph.specs.FlowGraph.{Arc, body_of, exit_of, graph_of}
 use Rattle.flow_graph.specs.Laws.{last_of}
 use Rattle.flow_graph.specs.Stack.{Beginning, IsChain}
-use Rattle.flow_graph.specs.Walks.{CallMeaning, WalksTo}
-use Rattle.point_induction.specs.Points.{Arrival, Passage, is_head, is_point}
+use Rattle.flow_graph.specs.Walks.{WalksTo}
+use Rattle.point_induction.specs.Points.{Arrival, Passage, is_point}
 
 -- What is said: of an activation that began with these globals and arguments and is at a point in a
 -- state, and of one that began so and returned with globals and a value.

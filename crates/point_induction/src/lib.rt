@@ -3,5 +3,7 @@
 #![tactic(auto)]
 
 mod laws;
+mod marks;
 
 pub use laws::kept_assertions_are_true;
+pub use marks::{head_marks, heads};
