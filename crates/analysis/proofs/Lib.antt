@@ -21,5 +21,6 @@ pub mod KnownBlocks
 -- that nothing is left out
 pub mod ReportCover
 pub mod ReportParts
+pub mod FoundReports
 -- no notes beside the report
 pub mod Quiet

@@ -2,6 +2,7 @@
 -- as they were.
 --     quiet-bind, quiet-each, quiet-apart    how quiet computations are put together
 --     quiet-kept                             what a call that follows one does to the notes
+--     found-quiet, found_report-quiet        what is found of procedures, and the report by it
 --     analysed-quiet                         the whole analysis is one
 use Rattle.std.proofs.Common.{◌≡◌, List, [], ◌∷◌, ◌++◌, Option, None, Some, Result, Ok, Err, refl, ap, ◌∙◌}
 use Rattle.std.specs.Prelude.{⊤}
@@ -23,7 +24,7 @@ use Rattle.context.specs.Verdicts.{place_of, verdict_of}
 use Rattle.analysis.specs.declared.places.TextPlace.{TextPlace}
 use Rattle.analysis.specs.declared.planning.Planned.{Planned}
 use Rattle.analysis.specs.declared.found.Found.{Found}
-use Rattle.analysis.specs.Analysis.{report_by_plan, report_by_findings, report_by}
+use Rattle.analysis.specs.Analysis.{found_report, report_by_plan, report_by_findings, report_by}
 use Rattle.analysis.specs.Apart.{apart, apart_from}
 use Rattle.analysis.specs.Found.{findings_by_plan, with_group, flows_in}
 use Rattle.analysis.specs.Judging.{Asserted, numbered_assertion, judgements_on_all, judgement_of, place_in, with_judged}
@@ -35,17 +36,17 @@ IsQuiet (Done value) = ⊤
 IsQuiet (Noted notes next) = ⊥
 IsQuiet (Asked question next) = (answer : Answer) → IsQuiet (next answer)
 
-quiet-bind : {A B : Type 0} (p : Posing A) (f : A → Posing B) → IsQuiet p → ((x : A) → IsQuiet (f x)) → IsQuiet (p >>= f)
+pub quiet-bind : {A B : Type 0} (p : Posing A) (f : A → Posing B) → IsQuiet p → ((x : A) → IsQuiet (f x)) → IsQuiet (p >>= f)
 unfolding ◌>>=◌
 quiet-bind (Done x) f h rest = rest x
 quiet-bind (Noted notes next) f h rest = absurd h
 quiet-bind (Asked question next) f h rest = λ answer. quiet-bind (next answer) f (h answer) rest
 
-quiet-each : {A B : Type 0} (step : B → A → Posing B) (made : B) (xs : List A) → ((made : B) (x : A) → IsQuiet (step made x)) → IsQuiet (each step made xs)
+pub quiet-each : {A B : Type 0} (step : B → A → Posing B) (made : B) (xs : List A) → ((made : B) (x : A) → IsQuiet (step made x)) → IsQuiet (each step made xs)
 quiet-each step made [] h = tt
 quiet-each step made (x ∷ xs) h = quiet-bind (step made x) (λ next. each step next xs) (h made x) (λ next. quiet-each step next xs h)
 
-quiet-apart_from : {A : Type 0} (before : List Note) (p : Posing A) → IsQuiet (apart_from before p)
+pub quiet-apart_from : {A : Type 0} (before : List Note) (p : Posing A) → IsQuiet (apart_from before p)
 unfolding apart_from
 quiet-apart_from before (Done x) = tt
 quiet-apart_from before (Noted notes next) = quiet-apart_from (before ++ notes) next
@@ -85,7 +86,14 @@ ended-quiet program places found =
     quiet-bind (apart (entries_from program (flows_in found))) _ (quiet-apart_from [] (entries_from program (flows_in found)))
     (λ entries. quiet-bind (judgements_on_all program places entries.0 (flows_in found)) _ (all_judged-quiet program places entries.0 (flows_in found)) (λ judged. tt))
 
-found-quiet : (program : Program) (plan : List Planned) → IsQuiet (findings_by_plan program plan)
+pub found_report-quiet : (program : Program) (places : List TextPlace) (found : Found) → IsQuiet (found_report program places found)
+unfolding found_report report_by
+found_report-quiet program places found =
+    quiet-bind (apart (entries_from program (flows_in found))) _ (quiet-apart_from [] (entries_from program (flows_in found)))
+    (λ entries. quiet-bind (report_by program places found entries.0 entries.1) _
+    (quiet-bind (judgements_on_all program places entries.0 (flows_in found)) _ (all_judged-quiet program places entries.0 (flows_in found)) (λ judged. tt)) (λ report. tt))
+
+pub found-quiet : (program : Program) (plan : List Planned) → IsQuiet (findings_by_plan program plan)
 unfolding findings_by_plan with_group part_of
 found-quiet program plan =
     quiet-each _ _ plan (λ found planned.

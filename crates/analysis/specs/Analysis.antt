@@ -11,6 +11,7 @@ use Rattle.context.specs.Entries.{entries_from}
 use Rattle.analysis.specs.declared.places.TextPlace.{TextPlace}
 use Rattle.analysis.specs.declared.planning.Planned.{Planned}
 use Rattle.analysis.specs.declared.found.Found.{Found}
+use Rattle.analysis.specs.declared.whole.FoundReport.{FoundReport}
 use Rattle.analysis.specs.Apart.{apart}
 use Rattle.analysis.specs.Found.{findings_by_plan, flows_in}
 use Rattle.analysis.specs.Judging.{column_names, global_names, judgements_on_all}
@@ -59,6 +60,22 @@ unfoldable pub report_by_findings : Program → List TextPlace → Found → Pos
 report_by_findings program places found =
     apart (entries_from program (flows_in found)) >>= λ entries.
     report_by program places found entries.0 entries.1
+
+-- a report, with what it is made by
+abbrev pub with_findings : Found → List (Option Transition) → Report → FoundReport
+with_findings found entries report = record {
+  report = report;
+  known = found.known;
+  flows = flows_in found;
+  entries = entries;
+}
+
+-- the same report with what it is made by
+unfoldable pub found_report : Program → List TextPlace → Found → Posing FoundReport
+found_report program places found =
+    apart (entries_from program (flows_in found)) >>= λ entries.
+    report_by program places found entries.0 entries.1 >>= λ report.
+    Done (with_findings found entries.0 report)
 
 -- by the plan of the program
 unfoldable pub report_by_plan : Program → List TextPlace → List Planned → Posing Report

@@ -32,6 +32,7 @@ use Rattle.analysis.specs.declared.judging.JudgedText.{JudgedText}
 use Rattle.analysis.specs.declared.places.TextPlace.{TextPlace}
 use Rattle.analysis.specs.declared.standing.CheckAt.{CheckAt}
 use Rattle.analysis.specs.declared.standing.Standing.{Standing}
+use Rattle.analysis.specs.declared.whole.FoundReport.{FoundReport}
 use Rattle.analysis.specs.Judging.{checks_of}
 use Rattle.analysis.specs.Plan.{ArePlannedOf}
 
@@ -155,6 +156,22 @@ pub record FoundIsMet (program : Program) (found : Found) : Type 0 where
   pub summaries : AreMet program found.known
   pub flows : (proc : ℕ) (flow : Flow) → slice_get found.flows proc ≡ Some (Some flow)
       → FlowHolds program proc flow
+
+-- ---- a report with what it is made by
+
+-- what it is made by fits the program, and there is a summary of each procedure
+pub record FitsFoundReport (program : Program) (made : FoundReport) : Type 0 where
+  pub known : AreKnown program made.known
+  pub all : (proc : ℕ) → proc < length program.procs
+      → (f : Transition) × (slice_get made.known proc ≡ Some (Some f))
+  pub flows : AreFlows program made.flows
+  pub entries : AreEntries program made.entries
+
+-- the summaries are met, and the flows and entries hold
+pub record FoundReportHolds (program : Program) (made : FoundReport) : Type 0 where
+  pub summaries : AreMet program made.known
+  pub flows : FlowsHold program made.flows
+  pub entries : EntriesHold program made.entries
 
 -- ---- assertions
 

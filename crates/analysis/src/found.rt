@@ -120,7 +120,7 @@ fn with_notes_at(places: &[u32], notes: Items<Note>, all: Items<Items<Note>>) ->
 
 /// What is found of all groups of a plan.
 #[tactic(auto, unfolding(crate::specs::Found::findings_by_plan))]
-pub(crate) fn findings_by_plan<O: Oracle>(
+pub fn findings_by_plan<O: Oracle>(
     alloc: Global,
     program: &Program,
     plan: &[Planned],

@@ -12,8 +12,10 @@ mod planning;
 mod standing;
 mod whole;
 
-pub use found::Found;
+pub use found::{Found, findings_by_plan};
+pub use names::global_names;
 pub use parts::{GroupSummaries, Part, part_of, part_with, summaries_apart};
 pub use places::TextPlace;
 pub use planning::{GroupKind, Planned, plan};
-pub use whole::{analyse, report_by_findings};
+pub use standing::{CheckAt, Standing, check_with, standing_of};
+pub use whole::{FoundReport, analyse, found_report, report_by_findings};

@@ -6,7 +6,7 @@ use std::alloc::{AllocError, Global};
 use syntax_tree::{Column, Name, Program};
 
 /// The names of the globals.
-pub(crate) fn global_names(alloc: Global, program: &Program) -> Result<Items<Name>, AllocError>
+pub fn global_names(alloc: Global, program: &Program) -> Result<Items<Name>, AllocError>
     ensures { IfOk result (λ names. names ≡ global_names program.now) }
 {
     let mut names = Items::new(alloc);

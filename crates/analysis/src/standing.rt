@@ -14,22 +14,22 @@ use transition_formula::FormulaError;
 /// Where an assertion stands: its number, its procedure, and its place among the assertions of
 /// that.
 #[derive(Clone, Copy, Debug, PartialEq, Eq)]
-pub(crate) struct CheckAt {
-    pub(crate) number: u32,
-    pub(crate) proc: u32,
-    pub(crate) check: u32,
+pub struct CheckAt {
+    pub number: u32,
+    pub proc: u32,
+    pub check: u32,
 }
 
 /// The graph of each procedure, and where the assertions of all of them stand.
 #[derive(Drop)]
-pub(crate) struct Standing {
-    pub(crate) graphs: Items<Graph>,
-    pub(crate) checks: Items<CheckAt>,
+pub struct Standing {
+    pub graphs: Items<Graph>,
+    pub checks: Items<CheckAt>,
 }
 
 /// The graphs of a program's procedures, each made once, and their assertions. The one error is
 /// want of memory.
-pub(crate) fn standing_of(alloc: Global, program: &Program) -> Result<Standing, FormulaError>
+pub fn standing_of(alloc: Global, program: &Program) -> Result<Standing, FormulaError>
     requires { IsWellFormed program.now }
     ensures { IfOk result (IsStanding program.now) }
 {
@@ -85,7 +85,7 @@ fn add_checks(
 }
 
 /// The one with a number.
-pub(crate) fn check_with(number: u32, checks: &[CheckAt]) -> Option<CheckAt>
+pub fn check_with(number: u32, checks: &[CheckAt]) -> Option<CheckAt>
     ensures { result ≡ check_with number checks.now }
 {
     for check in checks {

@@ -6,9 +6,9 @@ ghost use Rattle.context.specs.Claims.{AreEntries, AreFlows, EntriesHold, FlowsH
 ghost use Rattle.context.specs.Entries.{entries_from};
 ghost use Rattle.report.specs.Claims.{ClaimsAreMet, PointsMeetRows, ReportCovers};
 ghost use Rattle.analysis.specs.declared.planning.Planned.{Planned as PlannedGroup};
-ghost use Rattle.analysis.specs.Analysis.{report_by_plan, report_by_findings};
+ghost use Rattle.analysis.specs.Analysis.{found_report, report_by_plan, report_by_findings};
 ghost use Rattle.analysis.specs.Apart.{apart};
-ghost use Rattle.analysis.specs.Claims.{AreTheirPlaces, FitsFound, FoundIsMet, HasAll};
+ghost use Rattle.analysis.specs.Claims.{AreTheirPlaces, FitsFound, FitsFoundReport, FoundIsMet, FoundReportHolds, HasAll};
 ghost use Rattle.analysis.specs.Plan.{IsPlan};
 
 use crate::blocks::blocks_by;
@@ -26,6 +26,16 @@ use std::alloc::{AllocError, Global};
 use std::mem;
 use syntax_tree::Program;
 use transition_formula::Formula;
+
+/// A report, and what it was made by: the summaries and the flows of the procedures, and their
+/// entries, in the order of the text.
+#[derive(Drop)]
+pub struct FoundReport {
+    pub report: Report,
+    pub known: Items<Option<Formula>>,
+    pub flows: Items<Flow>,
+    pub entries: Items<Option<Formula>>,
+}
 
 /// The report of a program, whose assertions stand at these places of its text. The log gains the
 /// answers that were taken, in the order of their questions, and no notes: these stand in the
@@ -54,7 +64,6 @@ pub fn analyse<O: Oracle>(
 }
 
 /// The same by what is found of all procedures.
-#[tactic(auto, using(posing::proofs::Following::following), unfolding(crate::specs::Analysis::report_by_findings, crate::specs::Analysis::report_by))]
 pub fn report_by_findings<O: Oracle>(
     alloc: Global,
     program: &Program,
@@ -73,6 +82,33 @@ pub fn report_by_findings<O: Oracle>(
         → IfOk result (ReportCovers program.now) }
     ensures points { IfOk result PointsMeetRows }
 {
+    let made = found_report(alloc, program, places, found, oracle, log)?;
+    Ok(made.report)
+}
+
+/// The same report with what it was made by.
+#[tactic(auto, using(posing::proofs::Following::following), unfolding(crate::specs::Analysis::found_report, crate::specs::Analysis::report_by))]
+pub fn found_report<O: Oracle>(
+    alloc: Global,
+    program: &Program,
+    places: &[TextPlace],
+    found: Found,
+    oracle: &mut O,
+    log: &mut Log,
+) -> Result<FoundReport, WorkError>
+    requires formed { IsWellFormed program.now }
+    requires found { FitsFound program.now found }
+    requires all { HasAll program.now found }
+    ensures follows { Asks O.asking oracle log result
+        (found_report program.now places.now found) }
+    ensures met { FoundIsMet program.now found
+        → IfOk result (λ made. ClaimsAreMet program.now made.report) }
+    ensures covers { AreTheirPlaces program.now places.now
+        → IfOk result (λ made. ReportCovers program.now made.report) }
+    ensures points { IfOk result (λ made. PointsMeetRows made.report) }
+    ensures fits { IfOk result (FitsFoundReport program.now) }
+    ensures holds { FoundIsMet program.now found → IfOk result (FoundReportHolds program.now) }
+{
     let Found {
         known,
         flows,
@@ -90,10 +126,16 @@ pub fn report_by_findings<O: Oracle>(
         oracle,
         log,
     )?;
-    Ok(Report {
+    let report = Report {
         procs,
         notes: own,
         judged,
+    };
+    Ok(FoundReport {
+        report,
+        known,
+        flows,
+        entries,
     })
 }
 

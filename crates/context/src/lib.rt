@@ -17,3 +17,4 @@ pub use assertion::{Assertion, graph_verdict, verdict};
 pub use entry_formulas::entries;
 pub use judging::verdict_on_cases;
 pub use laws::assertions_hold;
+pub use second_questions::with_products;

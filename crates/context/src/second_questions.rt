@@ -44,7 +44,7 @@ fn second_rows(alloc: Global, verdict: &Verdict) -> Result<Items<Row>, AllocErro
 }
 
 /// Rows with their products; none where they have no products.
-pub(crate) fn with_products(alloc: Global, rows: &Items<Row>) -> Result<Items<Row>, AllocError>
+pub fn with_products(alloc: Global, rows: &Items<Row>) -> Result<Items<Row>, AllocError>
     ensures { IfOk result (λ all. all ≡ with_products rows.now) }
 {
     let products = products(alloc, rows.as_slice())?;

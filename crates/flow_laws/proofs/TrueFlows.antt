@@ -26,6 +26,7 @@ use Rattle.transition_formula.specs.Transition.{Transition}
 use Rattle.flow_graph.specs.FlowGraph.{Arc, FlowGraph, exit_of}
 use Rattle.flow_graph.specs.Walks.{CallMeaning, Stride, Walks}
 use Rattle.flow_graph.proofs.Within.{arcs_within}
+use Rattle.point_induction.specs.Points.{points_of}
 use Rattle.leaf_cases.specs.Conditions.{AreKnown, KnownCalls}
 use Rattle.leaf_cases.specs.Summaries.{AreMet, KnowsCallee}
 use Rattle.posing.specs.Posing.{Always, Done}
@@ -190,19 +191,23 @@ module _ (program : Program) (proc : ℕ) (p : Proc) (known : List (Option Trans
         exit_is = refl;
         checks_are = nodes-are (columns_of s) cells (check_nodes (own_graph p).checks);
         calls_are = nodes-are (columns_of s) cells (call_nodes (own_graph p).arcs);
+        points_are = nodes-are (columns_of s) cells (points_of (own_graph p));
         exit = stop-fits (exit_of (code_of p.body));
         checks = stops-all (FitsStop width) (columns_of s) cells stop-fits (check_nodes (own_graph p).checks);
         calls = stops-all (FitsStop width) (columns_of s) cells stop-fits (call_nodes (own_graph p).arcs);
+        points = stops-all (FitsStop width) (columns_of s) cells stop-fits (points_of (own_graph p));
       };
       ways = record {
         exit = stop-way (exit_of (code_of p.body));
         checks = stops-all (TellsWay p) (columns_of s) cells stop-way (check_nodes (own_graph p).checks);
         calls = stops-all (TellsWay p) (columns_of s) cells stop-way (call_nodes (own_graph p).arcs);
+        points = stops-all (TellsWay p) (columns_of s) cells stop-way (points_of (own_graph p));
       };
       holds = λ knows met. record {
         exit = stop-holds knows met (exit_of (code_of p.body));
         checks = stops-all (StopHolds program proc) (columns_of s) cells (stop-holds knows met) (check_nodes (own_graph p).checks);
         calls = stops-all (StopHolds program proc) (columns_of s) cells (stop-holds knows met) (call_nodes (own_graph p).arcs);
+        points = stops-all (StopHolds program proc) (columns_of s) cells (stop-holds knows met) (points_of (own_graph p));
       };
     }
 

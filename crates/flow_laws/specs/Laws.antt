@@ -25,12 +25,13 @@ LeadsTo p node edges = IsWalk (map link_of (own_graph p).arcs) 0 node edges
 abbrev pub TellsWay : Proc → NodeFormula → Type 0
 TellsWay p stop = (stop.formula ≡ None) ↔ ((edges : List ℕ) → ¬ LeadsTo p stop.node edges)
 
--- the exit of a flow, its assertions and its calls have a formula exactly where a path leads to
--- them
+-- the exit of a flow, its assertions, its calls and its points have a formula exactly where a path
+-- leads to them
 pub record FlowTellsWays (p : Proc) (flow : Flow) : Type 0 where
   pub exit : TellsWay p flow.exit
   pub checks : All (TellsWay p) flow.checks
   pub calls : All (TellsWay p) flow.calls
+  pub points : All (TellsWay p) flow.points
 
 -- it fits the procedure, tells which nodes are led to, and holds of activations where the known
 -- formulas are met

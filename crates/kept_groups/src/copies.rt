@@ -48,10 +48,12 @@ fn flow_copy(alloc: Global, flow: &Flow) -> Result<Flow, AllocError>
     let exit = stop_copy(&flow.exit)?;
     let checks = stop_copies(alloc, flow.checks.as_slice())?;
     let calls = stop_copies(alloc, flow.calls.as_slice())?;
+    let points = stop_copies(alloc, flow.points.as_slice())?;
     Ok(Flow {
         exit,
         checks,
         calls,
+        points,
     })
 }
 

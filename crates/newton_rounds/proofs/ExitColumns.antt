@@ -1,5 +1,5 @@
 -- The columns that are told at the exit.
-use Rattle.std.proofs.Common.{◌≡◌, ℕ, zero, suc, ◌+◌, ◌-◌, ◌<◌, ◌≤◌, Bool, true, false, length, List, [], ◌∷◌, ◌++◌, refl, sym, subst, ◌∙◌, length-append, arith}
+use Rattle.std.proofs.Common.{◌≡◌, ℕ, ◌+◌, ◌-◌, ◌<◌, ◌≤◌, Bool, true, false, length, List, [], ◌∷◌, ◌++◌, refl, sym, subst, ◌∙◌, length-append, arith}
 use Rattle.std.specs.Prelude.{All}
 use Rattle.std.specs.List.{AllByRecursion, range_with_len}
 use Rattle.std.proofs.lemmas.List.Elements.{All-from_recursion}
@@ -7,6 +7,7 @@ use Rattle.std.proofs.lemmas.List.FromFn.{length-range_with_len}
 use Rattle.items.proofs.Each.{each-append}
 use Rattle.vocabularies.specs.Ends.{value_width}
 use Rattle.proc_summary.specs.Summary.{exit_places, value_place}
+pub use Rattle.proc_summary.proofs.CratesBelow.{range-below}
 use Rattle.newton_rounds.specs.Pairs.{PairEnds}
 use Rattle.newton_rounds.specs.Shapes.{AreEnds}
 
@@ -17,10 +18,6 @@ value-length false columns = refl
 pub value-few : (returns : Bool) → value_width returns ≤ 1
 value-few true = omega arith
 value-few false = omega arith
-
-pub range-below : (first count most : ℕ) → first + count ≤ most → AllByRecursion (λ place. place < most) (range_with_len first count)
-range-below first zero most le = tt
-range-below first (suc count) most le = (omega (arith, le), range-below (first + 1) count most (omega (arith, le)))
 
 value-below : (returns : Bool) (columns : ℕ) → 0 < columns → AllByRecursion (λ place. place < columns) (value_place returns columns)
 value-below true columns lt = (omega (arith, lt), tt)

@@ -20,6 +20,10 @@ is_head arcs node = list_any (leads_back_to node) arcs
 abbrev pub heads_of : FlowGraph → List ℕ
 heads_of graph = filter (is_head graph.arcs) (range_with_len 0 graph.nodes)
 
+-- the points of a graph in their order: the entry, and then the heads
+abbrev pub points_of : FlowGraph → List ℕ
+points_of graph = 0 ∷ heads_of graph
+
 -- the entry or a head
 abbrev pub is_point : List Arc → ℕ → Bool
 is_point arcs node = node == 0 || is_head arcs node

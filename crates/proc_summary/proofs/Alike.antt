@@ -1,7 +1,7 @@
 -- Alike procedures have one subject, the same ends and the same pairs of entry and exit.
 use Rattle.std.proofs.Common.{◌≡◌, ℕ, ◌+◌, List, [], ◌∷◌, ◌++◌, length, map, take, true, false, Option, refl, sym, ap, ◌∙◌, arith}
-use Rattle.std.specs.Prelude.{replicate}
-use Rattle.std.specs.List.{flat_map, range_with_len}
+use Rattle.std.specs.Prelude.{◌==◌, ◌&&◌, ◌||◌, nat_lt, not, replicate}
+use Rattle.std.specs.List.{filter, flat_map, range_with_len}
 use Rattle.std.proofs.lemmas.List.{length-map, map-append}
 use Rattle.linear_terms.specs.Equality.{poly_eq}
 use Rattle.polyhedra.specs.Directions.{distinct}
@@ -12,6 +12,7 @@ use Rattle.syntax_tree.specs.Code.{Statement, Guard, Code, code_of}
 use Rattle.syntax_tree.specs.Nodes.{code_nodes, statement_nodes}
 use Rattle.syntax_tree.specs.WellFormed.{has_name, width_of}
 use Rattle.flow_graph.specs.FlowGraph.{Arc, CheckPlace, arc, checks_at, code_arcs, code_checks_at, exit_of, inside, outermost, skip, statement_arcs, unless}
+use Rattle.point_induction.specs.Points.{is_head}
 use Rattle.leaf_cases.specs.Edges.{known_call, leaf_of, losses_in_known_call, losses_in_leaf}
 use Rattle.transition_formula.specs.Transition.{Transition}
 use Rattle.vocabularies.specs.Harvest.{compared_terms, compared_by, compared_in, harvest_of, most_terms}
@@ -273,6 +274,10 @@ module _ (same : ℕ → ℕ → Type 0) where
   calls-alike _ _ no_arcs = refl
   calls-alike _ _ (more_arcs a b xs bs one h) = λ i. call-alike a.from b.from a.act b.act one.from one.act i ++ calls-alike xs bs h i
 
+  head-alike : (xs bs : List Arc) → AreAlikeArcs same xs bs → (node : ℕ) → is_head xs node ≡ is_head bs node
+  head-alike _ _ no_arcs node = refl
+  head-alike _ _ (more_arcs a b xs bs one h) node = λ i. ((one.to i == node) && not (nat_lt (one.from i) (one.to i))) || head-alike xs bs h node i
+
 -- ---- formulas of edges
 
 module _ (columns globals : ℕ) (known others : List (Option Transition)) where
@@ -400,6 +405,7 @@ alike_procs_are_one program other p q known others h =
         exit = e i;
         checks = code-checks same 0 0 (code_of p.body) (code_of q.body) refl h.body i;
         calls = calls-alike same (own_graph p).arcs (own_graph q).arcs arcs i;
+        points = 0 ∷ filter (λ node. head-alike same (own_graph p).arcs (own_graph q).arcs arcs node i) (range_with_len 0 (f i));
       }),
       ends-alike same program other p q h,
     )

@@ -1,8 +1,8 @@
--- What is proved in the crates below, by the names that the proofs here cite, and the element at a
--- place of a list.
-use Rattle.std.proofs.Common.{◌≡◌, ℕ, zero, suc, ◌<◌, List, [], ◌∷◌, length, refl, arith}
+-- What is proved in the crates below, by the names that the proofs here cite, the element at a place
+-- of a list, and the greatest number of a range.
+use Rattle.std.proofs.Common.{◌≡◌, ℕ, zero, suc, ◌+◌, ◌<◌, ◌≤◌, List, [], ◌∷◌, length, refl, arith}
 use Rattle.std.specs.Prelude.{Some}
-use Rattle.std.specs.List.{slice_get}
+use Rattle.std.specs.List.{AllByRecursion, range_with_len, slice_get}
 pub use Rattle.transition_formula.proofs.HiddenColumns.{hidden-holds, hidden-fits}
 pub use Rattle.transition_formula.proofs.SomePosts.{with_posts-holds, with_posts-fits}
 pub use Rattle.transition_formula.proofs.FittedFormulas.{fits-solvable, fitted-solvable}
@@ -19,3 +19,7 @@ pub some_at : {X : Type 0} (xs : List X) (k : ℕ) → k < length xs → (x : X)
 some_at [] k lt = absurd (omega arith)
 some_at (x ∷ xs) zero lt = (x, refl)
 some_at (x ∷ xs) (suc k) lt = some_at xs k (omega arith)
+
+pub range-below : (first count most : ℕ) → first + count ≤ most → AllByRecursion (λ place. place < most) (range_with_len first count)
+range-below first zero most le = tt
+range-below first (suc n) most le = (omega (arith, le), range-below (first + 1) n most (omega (arith, le)))

@@ -39,7 +39,7 @@ use Rattle.proc_summary.specs.Claims.{FitsFlow, FitsIf, FlowHolds, HoldsIf, IsBe
 use Rattle.proc_summary.specs.Summary.{Ends, ends_of, exit_formula, exit_places, projection_of, value_place}
 use Rattle.proc_summary.specs.Parts.{IsFit, IsToldBy, IsToldFrom}
 use Rattle.proc_summary.proofs.Graphs.{few-solvable, full-columns, length-after, narrow, post-length, proc-fit}
-use Rattle.proc_summary.proofs.CratesBelow.{IsVocabulary-below, hidden-fits, hidden-holds, returns_are_walks, some_at, with_posts-fits, with_posts-holds}
+use Rattle.proc_summary.proofs.CratesBelow.{IsVocabulary-below, hidden-fits, hidden-holds, range-below, returns_are_walks, some_at, with_posts-fits, with_posts-holds}
 
 -- ---- few auxiliaries
 
@@ -158,10 +158,6 @@ module _ (program : Program) (proc : ℕ) (p : Proc) (formed : IsWellFormed prog
   places-length =
       length-append (range_with_len 0 (length program.globals)) (value_place p.returns (full_of program p).columns)
       ∙ (λ i. length-range_with_len 0 (length program.globals) i + value-length p.returns (full_of program p).columns i)
-
-  range-below : (a n most : ℕ) → a + n ≤ most → AllByRecursion (λ place. place < most) (range_with_len a n)
-  range-below a zero most le = tt
-  range-below a (suc n) most le = (omega (arith, le), range-below (a + 1) n most (omega (arith, le)))
 
   value-below : (returns : Bool) (columns : ℕ) → 0 < columns → AllByRecursion (λ place. place < columns) (value_place returns columns)
   value-below true columns lt = (omega (arith, lt), tt)

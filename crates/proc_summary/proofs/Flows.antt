@@ -1,7 +1,7 @@
 -- The flow of a procedure fits, and holds of activations.
 use Rattle.std.proofs.Common.{◌≡◌, ℕ, ◌+◌, ◌-◌, ◌<◌, List, [], ◌∷◌, ◌++◌, length, map, Option, Some, refl, sym, ap, subst, ◌∙◌, arith, length-append}
 use Rattle.std.specs.Prelude.{All, slice_get, unwrap_or}
-use Rattle.std.specs.List.{AllByRecursion, flat_map}
+use Rattle.std.specs.List.{AllByRecursion, flat_map, range_with_len}
 use Rattle.std.proofs.lemmas.List.{length-replicate, map-append, map-id}
 use Rattle.std.proofs.lemmas.List.Elements.{All-from_recursion, recursion_from_All}
 use Rattle.items.proofs.Each.{each-append, each-get, each-map}
@@ -10,6 +10,7 @@ use Rattle.transition_formula.specs.Transition.{Transition}
 use Rattle.path_expr.specs.declared.cell.Cell.{Cell}
 use Rattle.path_expr.specs.declared.cell.Cell.TheVariants as found
 use Rattle.polyhedra.specs.Vocabulary.{Vocabulary}
+use Rattle.polyhedra.proofs.Lists.{each-filter}
 use Rattle.syntax_tree.specs.declared.program.Proc.{Proc}
 use Rattle.syntax_tree.specs.declared.program.Program.{Program}
 use Rattle.syntax_tree.specs.Code.{code_of}
@@ -24,6 +25,7 @@ use Rattle.flow_graph.specs.declared.parts.Graph.{Graph}
 use Rattle.flow_graph.specs.FlowGraph.{Arc, CheckPlace, FlowGraph, exit_of}
 use Rattle.flow_graph.specs.Plain.{arc_of, check_of, statement_of_act}
 use Rattle.flow_graph.specs.Walks.{Stride, Walks}
+use Rattle.point_induction.specs.Points.{is_head, points_of}
 use Rattle.leaf_cases.specs.Conditions.{AreKnown, KnownCalls}
 use Rattle.leaf_cases.specs.Summaries.{AreMet, KnowsCallee}
 use Rattle.vocabularies.specs.Ends.{full_of}
@@ -36,7 +38,7 @@ use Rattle.proc_summary.specs.Flow.{columns_of, flow_in, formula_of, stop_at}
 use Rattle.proc_summary.specs.Claims.{FitsFlow, FitsIf, FitsStop, FlowHolds, HoldsIf, HoldsOfWalks, IsBetweenStates, KnowsCallees, StopHolds, nodes_of}
 use Rattle.proc_summary.specs.Parts.{IsGraphOf, act_stop, call_stop, check_stop, graph_flow}
 use Rattle.proc_summary.proofs.Graphs.{arcs-are, flat-arcs, full-columns, graph-is, nodes-are, plain-is, vocabulary-is}
-use Rattle.proc_summary.proofs.CratesBelow.{identity-fits, identity-holds, met_edges_are_known, some_at}
+use Rattle.proc_summary.proofs.CratesBelow.{identity-fits, identity-holds, met_edges_are_known, range-below, some_at}
 
 -- ---- the same flow by the graph and by the subject
 
@@ -85,7 +87,8 @@ module _ (program : Program) (proc : ℕ) (p : Proc) (known : List (Option Trans
       let wide = sym (columns-of formed are) in
       let checks = check-stops (width_of program p) cells g.checks ∙ (λ i. map (stop_at (wide i) cells) (check_nodes (checks-are i))) in
       let calls = call-stops (width_of program p) cells g.edges ∙ (λ i. map (stop_at (wide i) cells) (call_nodes (arcs-are program proc p known is g of i))) in
-      λ i. record { exit = stop_at (wide i) cells (exit-is i); checks = checks i; calls = calls i }
+      let graphs = plain-is program proc p known is g of in
+      λ i. record { exit = stop_at (wide i) cells (exit-is i); checks = checks i; calls = calls i; points = map (stop_at (wide i) cells) (points_of (graphs i)) }
 
   -- ---- the nodes that count are nodes
 
@@ -115,6 +118,12 @@ module _ (program : Program) (proc : ℕ) (p : Proc) (known : List (Option Trans
       within-each : (edges : List Edge) → AllByRecursion (λ (edge : Edge). (edge.from < (own_graph p).nodes) × (edge.to < (own_graph p).nodes)) edges → AllByRecursion (λ node. node < (own_graph p).nodes) (call_nodes (map arc_of edges))
       within-each [] h = tt
       within-each (edge ∷ edges) h = each-append (λ node. node < (own_graph p).nodes) (call_node edge.from (statement_of_act edge.act)) (call_nodes (map arc_of edges)) (one edge.from edge.act h.0.0) (within-each edges h.1)
+
+  points-within : AllByRecursion (λ node. node < (own_graph p).nodes) (points_of (own_graph p))
+  points-within = (
+    some-nodes,
+    each-filter (λ node. node < (own_graph p).nodes) (is_head (own_graph p).arcs) (range_with_len 0 (own_graph p).nodes) (range-below 0 (own_graph p).nodes (own_graph p).nodes (omega arith)),
+  )
 
   module _ (formed : IsWellFormed program) (are : AreKnown program known) (cells : List (Cell Transition)) where
     abbrev width : ℕ
@@ -159,9 +168,11 @@ module _ (program : Program) (proc : ℕ) (p : Proc) (known : List (Option Trans
         exit_is = refl;
         checks_are = nodes-map (stop_at width cells) (λ node. node) (λ node. refl) (check_nodes (own_graph p).checks) ∙ map-id (check_nodes (own_graph p).checks);
         calls_are = nodes-map (stop_at width cells) (λ node. node) (λ node. refl) (call_nodes (own_graph p).arcs) ∙ map-id (call_nodes (own_graph p).arcs);
+        points_are = nodes-map (stop_at width cells) (λ node. node) (λ node. refl) (points_of (own_graph p)) ∙ map-id (points_of (own_graph p));
         exit = subst (λ n. FitsStop n (stop_at width cells (exit_of (code_of p.body)))) wide (stop-fits (exit_of (code_of p.body)) (exit-within formed));
         checks = subst (λ n. All (FitsStop n) (map (stop_at width cells) (check_nodes (own_graph p).checks))) wide (All-from_recursion (FitsStop width) (map (stop_at width cells) (check_nodes (own_graph p).checks)) (stops-fit (check_nodes (own_graph p).checks) checks-within));
         calls = subst (λ n. All (FitsStop n) (map (stop_at width cells) (call_nodes (own_graph p).arcs))) wide (All-from_recursion (FitsStop width) (map (stop_at width cells) (call_nodes (own_graph p).arcs)) (stops-fit (call_nodes (own_graph p).arcs) calls-within));
+        points = subst (λ n. All (FitsStop n) (map (stop_at width cells) (points_of (own_graph p)))) wide (All-from_recursion (FitsStop width) (map (stop_at width cells) (points_of (own_graph p))) (stops-fit (points_of (own_graph p)) points-within));
       }
 
       -- ---- the flow holds
@@ -211,4 +222,5 @@ module _ (program : Program) (proc : ℕ) (p : Proc) (known : List (Option Trans
           exit = stop-holds (exit_of (code_of p.body)) (exit-within formed);
           checks = stops-hold (check_nodes (own_graph p).checks) checks-within;
           calls = stops-hold (call_nodes (own_graph p).arcs) calls-within;
+          points = stops-hold (points_of (own_graph p)) points-within;
         }

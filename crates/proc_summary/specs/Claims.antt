@@ -11,6 +11,7 @@ use Rattle.transition_formula.specs.Meaning.{Holds}
 use Rattle.transition_formula.specs.Transition.{Transition, IsTransition, IsFitted}
 use Rattle.flow_graph.specs.FlowGraph.{exit_of}
 use Rattle.flow_graph.specs.Walks.{Stride, Walks, WalksTo}
+use Rattle.point_induction.specs.Points.{points_of}
 use Rattle.leaf_cases.specs.Conditions.{KnownCalls}
 use Rattle.leaf_cases.specs.Summaries.{KnowsCallee}
 use Rattle.checked_tree.specs.Law.{HoldsCell}
@@ -46,14 +47,16 @@ FitsStop columns stop = FitsIf columns stop.formula
 abbrev pub nodes_of : List NodeFormula → List ℕ
 nodes_of stops = map (λ stop. stop.node) stops
 
--- it has the nodes of the procedure's exit, assertions and calls, in the order of its graph
+-- it has the nodes of the procedure's exit, assertions, calls and points, in the order of its graph
 pub record FitsFlow (program : Program) (p : Proc) (flow : Flow) : Type 0 where
   pub exit_is : flow.exit.node ≡ exit_of (code_of p.body)
   pub checks_are : nodes_of flow.checks ≡ check_nodes (own_graph p).checks
   pub calls_are : nodes_of flow.calls ≡ call_nodes (own_graph p).arcs
+  pub points_are : nodes_of flow.points ≡ points_of (own_graph p)
   pub exit : FitsStop (width_of program p) flow.exit
   pub checks : All (FitsStop (width_of program p)) flow.checks
   pub calls : All (FitsStop (width_of program p)) flow.calls
+  pub points : All (FitsStop (width_of program p)) flow.points
 
 -- ---- what it says of executions
 
@@ -74,6 +77,7 @@ pub record FlowHolds (program : Program) (proc : ℕ) (flow : Flow) : Type 0 whe
   pub exit : StopHolds program proc flow.exit
   pub checks : All (StopHolds program proc) flow.checks
   pub calls : All (StopHolds program proc) flow.calls
+  pub points : All (StopHolds program proc) flow.points
 
 -- The cell of each node holds of each walk from the source to it, from a state that has the columns
 -- of the procedure, where calls mean what the known formulas say.

@@ -42,14 +42,15 @@ stop_at columns cells node = record { node = node; formula = formula_at columns 
 abbrev pub columns_of : Subject → ℕ
 columns_of s = (vocabulary_at (graph_by s) 0).columns
 
--- the formulas at the exit, at the assertions and at the calls, in order, by what stands at each
--- node
+-- the formulas at the exit, at the assertions, at the calls and at the points, in order, by what
+-- stands at each node
 abbrev pub flow_in : Subject → List (Cell Transition) → Flow
 flow_in s cells =
     record {
       exit = stop_at (columns_of s) cells s.exit;
       checks = map (stop_at (columns_of s) cells) s.checks;
       calls = map (stop_at (columns_of s) cells) s.calls;
+      points = map (stop_at (columns_of s) cells) s.points;
     }
 
 -- the flow of a procedure from its entry, node 0, behind the questions that it poses

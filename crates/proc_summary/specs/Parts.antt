@@ -8,6 +8,7 @@ use Rattle.flow_graph.specs.declared.parts.Edge.{Edge}
 use Rattle.flow_graph.specs.declared.parts.Graph.{Graph}
 use Rattle.flow_graph.specs.FlowGraph.{graph_of}
 use Rattle.flow_graph.specs.Plain.{plain, statement_of_act}
+use Rattle.point_induction.specs.Points.{points_of}
 use Rattle.leaf_cases.specs.Conditions.{columns_at, AreKnown, IsActOf}
 use Rattle.leaf_cases.specs.Edges.{leaf_of, losses_in_leaf}
 use Rattle.path_expr.specs.declared.cell.Cell.{Cell}
@@ -100,6 +101,7 @@ graph_flow columns cells g =
       exit = stop_at columns cells (g.nodes - 1);
       checks = map (check_stop columns cells) g.checks;
       calls = flat_map (call_stop columns cells) g.edges;
+      points = map (stop_at columns cells) (points_of (plain g));
     }
 
 -- ---- what is told of an exit

@@ -11,13 +11,14 @@ use Rattle.syntax_tree.specs.WellFormed.{width_of}
 use Rattle.transition_formula.specs.declared.loss.Loss.{Loss}
 use Rattle.transition_formula.specs.Transition.{Transition}
 use Rattle.flow_graph.specs.FlowGraph.{Arc, CheckPlace, FlowGraph, exit_of, flow_of}
+use Rattle.point_induction.specs.Points.{points_of}
 use Rattle.leaf_cases.specs.Edges.{leaf_of, losses_in_leaf}
 use Rattle.checked_tree.specs.Graph.{Graph, graph_of}
 use Rattle.vocabularies.specs.Ends.{full_of}
 
 -- The edges of its graph with the formula of each, what was lost in making these, the vocabulary of
--- each node, and the nodes that count: the exit, those of the assertions, and those from which
--- calls lead.
+-- each node, and the nodes that count: the exit, those of the assertions, those from which calls
+-- lead, and the points.
 pub record Subject : Type 0 where
   pub links : List Link
   pub leaves : List Transition
@@ -26,6 +27,7 @@ pub record Subject : Type 0 where
   pub exit : ℕ
   pub checks : List ℕ
   pub calls : List ℕ
+  pub points : List ℕ
 
 -- the two nodes of an edge, without what it does
 abbrev pub link_of : Arc → Link
@@ -68,6 +70,7 @@ subject_of program p known =
       exit = exit_of (code_of p.body);
       checks = check_nodes (own_graph p).checks;
       calls = call_nodes (own_graph p).arcs;
+      points = points_of (own_graph p);
     }
 
 -- as a graph that can be evaluated

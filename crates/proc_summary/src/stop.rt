@@ -9,11 +9,12 @@ pub struct NodeFormula {
     pub formula: Option<Formula>,
 }
 
-/// What a procedure comes to: its exit, its assertions in their order, and the nodes that its calls
-/// lead from, in the order of the edges.
+/// What a procedure comes to: its exit, its assertions in their order, the nodes that its calls lead
+/// from, in the order of the edges, and its points, the entry and then the heads of its loops.
 #[derive(Debug, Drop)]
 pub struct Flow {
     pub exit: NodeFormula,
     pub checks: Items<NodeFormula>,
     pub calls: Items<NodeFormula>,
+    pub points: Items<NodeFormula>,
 }

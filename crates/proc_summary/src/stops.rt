@@ -1,6 +1,7 @@
-ghost use Rattle.std.specs.Prelude.{◌≡◌, ◌<◌, ◌++◌, Some, length, map, IfOk, OnOk};
+ghost use Rattle.std.specs.Prelude.{◌≡◌, ◌<◌, ◌∷◌, ◌++◌, Some, length, map, IfOk, OnOk};
 ghost use Rattle.std.specs.List.{flat_map};
 ghost use Rattle.syntax_tree.specs.WellFormed.{IsWellFormed};
+ghost use Rattle.point_induction.specs.Heads.{AreInside};
 ghost use Rattle.posing.specs.Follows.{Asks};
 ghost use Rattle.leaf_cases.specs.Conditions.{AreKnown};
 ghost use Rattle.leaf_cases.specs.Summaries.{AreMet};
@@ -19,6 +20,7 @@ use farkas_check::Oracle;
 use flow_graph::{Act, CheckNode, Edge, Graph};
 use items::Items;
 use path_expr::Cell;
+use point_induction::heads;
 use polyhedra::{Log, WorkError};
 use std::alloc::Global;
 use syntax_tree::Program;
@@ -65,16 +67,20 @@ fn flow_in(
     columns: u32,
     cells: &[Cell<Formula>],
 ) -> Result<Flow, FormulaError>
-    requires { 0 < graph.now.nodes }
+    requires nodes { 0 < graph.now.nodes }
+    requires inside { AreInside graph.now }
     ensures { IfOk result (λ flow. flow ≡ graph_flow columns cells.now graph.now) }
 {
     let exit = stop_at(alloc, columns, cells, graph.nodes - 1)?;
     let checks = check_stops(alloc, columns, cells, graph.checks.as_slice())?;
     let calls = call_stops(alloc, columns, cells, graph.edges.as_slice())?;
+    let heads = heads(alloc, graph)?;
+    let points = point_stops(alloc, columns, cells, heads.as_slice())?;
     Ok(Flow {
         exit,
         checks,
         calls,
+        points,
     })
 }
 
@@ -125,6 +131,23 @@ fn add_call_stop(
         }
         Act::Guard(_) | Act::Set(_, _) | Act::Any(_) => Ok(()),
     }
+}
+
+/// The entry, which is node 0, and behind it the heads.
+fn point_stops(
+    alloc: Global,
+    columns: u32,
+    cells: &[Cell<Formula>],
+    heads: &[u32],
+) -> Result<Items<NodeFormula>, FormulaError>
+    ensures { IfOk result (λ stops. stops ≡ map (stop_at columns cells.now) (0 ∷ heads.now)) }
+{
+    let mut stops = Items::new(alloc);
+    stops.push(stop_at(alloc, columns, cells, 0)?)?;
+    for head in heads {
+        stops.push(stop_at(alloc, columns, cells, *head)?)?;
+    }
+    Ok(stops)
 }
 
 fn stop_at(

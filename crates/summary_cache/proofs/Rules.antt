@@ -102,15 +102,15 @@ module _ (program : Program) (rule : ℕ) where
   steps-from globals [] next step = step
   steps-from globals (frame ∷ below) next step = steps-by (record { globals = globals; frame = frame; below = below }) frame.items next step
 
-  runs : (first : Config) (steps : List Config) (last : Config) → Runs program first steps last → Runs (with_rule rule program) first steps last
+  pub runs : (first : Config) (steps : List Config) (last : Config) → Runs program first steps last → Runs (with_rule rule program) first steps last
   runs first [] last same = same
   runs first (next ∷ rest) last ran = (steps-from first.globals first.frames next ran.0, runs next rest last ran.1)
 
-  begins : (proc : ℕ) (globals args : _) (first : Config) → Begins program proc globals args first → Begins (with_rule rule program) proc globals args first
+  pub begins : (proc : ℕ) (globals args : _) (first : Config) → Begins program proc globals args first → Begins (with_rule rule program) proc globals args first
   begins proc globals args first b =
       record { width = b.width; frame = b.frame; entered = enters proc args _ b.frame b.entered; first_is = b.first_is }
 
-  returns : (proc : ℕ) (globals args after : _) (value : _) → Returns program proc globals args after value → Returns (with_rule rule program) proc globals args after value
+  pub returns : (proc : ℕ) (globals args after : _) (value : _) → Returns program proc globals args after value → Returns (with_rule rule program) proc globals args after value
   returns proc globals args after value r = record {
     first = r.first;
     begins = begins proc globals args r.first r.begins;

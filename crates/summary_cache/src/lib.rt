@@ -24,4 +24,4 @@ pub use place::{column_at, line_at, places_of};
 pub use reading::read;
 pub use refusal::{Refusal, TextError};
 pub use session::Session;
-pub use working::Counts;
+pub use working::{Counts, with_rule};

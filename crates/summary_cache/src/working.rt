@@ -44,7 +44,7 @@ fn counts_of(work: usize, groups: usize, report: &Report) -> Counts
 }
 
 /// A program with another rule.
-fn with_rule(program: Program, rule: u32) -> Program
+pub fn with_rule(program: Program, rule: u32) -> Program
     ensures { result ≡ with_rule rule program }
 {
     let mut program = program;

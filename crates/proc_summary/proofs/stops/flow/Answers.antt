@@ -18,8 +18,11 @@ cells_of-requires-clause-source g c =
     let there = some_at c.args.program.now.procs c.args.proc c.requires.procedure in
     some-graph c.args.program.now c.args.proc there.0 c.args.known.now there.1 c.in_ok-graph.graph c.in_ok-graph.ensures
 
-pub flow_in-requires : goal.flow_in-requires
-flow_in-requires g c =
+pub flow_in-requires-clause-inside : goal.flow_in-requires-clause-inside
+flow_in-requires-clause-inside g c = c.in_ok-graph.ensures.edges
+
+pub flow_in-requires-clause-nodes : goal.flow_in-requires-clause-nodes
+flow_in-requires-clause-nodes g c =
     let there = some_at c.args.program.now.procs c.args.proc c.requires.procedure in
     some-graph c.args.program.now c.args.proc there.0 c.args.known.now there.1 c.in_ok-graph.graph c.in_ok-graph.ensures
 
