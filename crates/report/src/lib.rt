@@ -1,6 +1,7 @@
 //! What a user reads: the summary of each procedure, the verdict on each assertion with what
-//! refutes it, and the notes of what was left out; the bounds on a global's change; and the bytes
-//! that tell them. Here stands too what a report claims, and when its claims are met.
+//! refutes it, and the notes of what was left out; rows that hold at points; the bounds on a
+//! global's change; and the bytes that tell them. Here stands too what a report claims, and when
+//! its claims are met.
 #![tactic(auto)]
 
 mod blocks;
@@ -8,6 +9,7 @@ mod costs;
 mod judged;
 mod names;
 mod notes;
+mod points;
 mod polynomials;
 mod printing;
 mod procedures;
@@ -16,5 +18,6 @@ mod verdict;
 
 pub use blocks::{Judged, ProcBlock, Report};
 pub use costs::print_costs;
-pub use printing::{print, proved_assertions, unproved_assertions};
+pub use points::{PointRows, RowsAt};
+pub use printing::{print, print_with_points, proved_assertions, unproved_assertions};
 pub use verdict::Verdict;

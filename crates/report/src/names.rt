@@ -2,10 +2,11 @@ ghost use Rattle.std.specs.Prelude.{◌≡◌, ◌++◌, IfOk, codes, slice_inde
 ghost use Rattle.std.specs.List.{list_any};
 ghost use Rattle.std.specs.Str.{bytes_eq};
 ghost use Rattle.report.specs.Text.{column_names, entry_names, exit_name, exit_names, names_of, shown_name_at, shown_name, stands_before};
+ghost use Rattle.report.specs.Points.{row_names};
 ghost use Rattle.report.specs.Appends.{Appends};
 
-use crate::ProcBlock;
 use crate::text::ReportText;
+use crate::{PointRows, ProcBlock};
 use items::Items;
 use std::alloc::{AllocError, Global};
 use std::str;
@@ -163,6 +164,14 @@ pub(crate) fn column_names(
 {
     let names = entry_names(alloc, &block.before)?;
     with_exit_names(alloc, names, &block.after)
+}
+
+/// Those of rows at a point, or where a procedure returns.
+pub(crate) fn row_names(alloc: Global, point: &PointRows) -> Result<Items<ReportText>, AllocError>
+    ensures { IfOk result (λ names. names ≡ row_names point.now) }
+{
+    let names = entry_names(alloc, &point.columns)?;
+    with_exit_names(alloc, names, &point.after)
 }
 
 /// Those of the procedure of a number.

@@ -4,9 +4,10 @@ use crate::parts::{formula, name, names};
 use crate::table::{COUNT, TABLE};
 use farkas_check::Ratio;
 use items::Items;
-use polynomial_texts::case;
+use linear_terms::Row;
+use polynomial_texts::{case, row};
 use posing::Note;
-use report::{Judged, ProcBlock, Report, Verdict, print};
+use report::{Judged, PointRows, ProcBlock, Report, RowsAt, Verdict, print_with_points};
 use std::alloc::Global;
 use std::process::Abort;
 use std::test::Fail;
@@ -109,6 +110,50 @@ fn judgement(alloc: Global, text: &str) -> Result<Judged, Fail> {
     })
 }
 
+/// The entry, the head of a loop by its number, or the return.
+fn rows_at(text: &str) -> Result<RowsAt, Fail> {
+    match text {
+        "entry" => Ok(RowsAt::Entry),
+        "return" => Ok(RowsAt::Return),
+        _ => Ok(RowsAt::Loop(number(text)?)),
+    }
+}
+
+fn rows(alloc: Global, lines: &str) -> Result<Items<Row>, Fail> {
+    let mut made = Items::new(alloc);
+    for line in lines.lines() {
+        made.push(row(alloc, line)?)?;
+    }
+    Ok(made)
+}
+
+fn point_rows(alloc: Global, text: &str) -> Result<PointRows, Fail> {
+    let (head, lines) = text.split_once('\n').ok_or("no rows")?;
+    let fields = head.split(';').collect::<Vec<&str>>(alloc)?;
+    let [title, columns, after] = fields.as_slice() else {
+        return Err("no place of rows".into());
+    };
+    let (at, proc) = title.trim().split_once(' ').ok_or("no procedure of rows")?;
+    Ok(PointRows {
+        proc: 0,
+        name: name(alloc, proc)?,
+        at: rows_at(at)?,
+        columns: names(alloc, columns)?,
+        after: names(alloc, after)?,
+        rows: rows(alloc, lines)?,
+    })
+}
+
+fn all_point_rows(alloc: Global, text: &str) -> Result<Items<PointRows>, Fail> {
+    let mut made = Items::new(alloc);
+    for part in text.split("> ") {
+        if let Some(rest) = part.strip_prefix("rows ") {
+            made.push(point_rows(alloc, rest.trim())?)?;
+        }
+    }
+    Ok(made)
+}
+
 fn report(alloc: Global, text: &str) -> Result<Report, Fail> {
     let mut procs = Items::new(alloc);
     let mut all = Items::new(alloc);
@@ -129,7 +174,8 @@ fn report(alloc: Global, text: &str) -> Result<Report, Fail> {
 
 fn check_report(alloc: Global, rt: &impl Abort, row: &str) -> Result<(), Fail> {
     let (parts, text) = row.split_once("\n> report\n").ok_or("no report")?;
-    let printed = print(alloc, &report(alloc, parts)?)?;
+    let points = all_point_rows(alloc, parts)?;
+    let printed = print_with_points(alloc, &report(alloc, parts)?, &points)?;
     assert_eq!(rt; str::from_utf8(&printed)?.trim_end(), text);
     Ok(())
 }

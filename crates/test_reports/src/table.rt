@@ -1,11 +1,13 @@
 //! Reports of worked texts, beside their parts.
 
 /// How many reports there are.
-pub(crate) const COUNT: usize = 26;
+pub(crate) const COUNT: usize = 28;
 
 /// The parts of a report and its text. A procedure has its name, the names before and after it, the
 /// number of its exit columns and its notes, and then its cases; an assertion its place, the names
-/// and numbers of its columns, and its case and the numbers of its point, or that it is proved.
+/// and numbers of its columns, and its case and the numbers of its point, or that it is proved;
+/// rows at a point where they hold, the name of the procedure, the names of the columns, and those
+/// of the globals that are left, and then the rows.
 pub(crate) const TABLE: &str = "\
 > procedure main ;  ;  ; 1 ; 
 1 ; $1
@@ -396,4 +398,81 @@ case 2
   -$1 + 2*$2 <= 0
   $ret = $4
 assertion 1 at 17:3 proved
-total 1 proved, 0 unproved";
+total 1 proved, 0 unproved
+
+> procedure grow ; inner tips k ; inner tips ; 2 ; 
+0 | x2 <= 0 ; x0 ; x1 + 1
+4 | -x2 + 1 <= 0 | x0 - $1 + 1 <= 0 | x1 - $2 + 1 <= 0 | $1 - $3 <= 0 | $2 - $4 + 1 <= 0 ; $3 ; $4
+> rows entry grow ; inner tips k ; 
+-x0 + x1 <= 0
+> rows return grow ; inner tips k ; inner tips
+-x3 + x4 - 1 <= 0
+-x3 <= 0
+-x4 + 1 <= 0
+x0 - x1 - x3 + x4 - 1 = 0
+> assertion 3 60 @ inner tips k @ 0 1 2 @ proved
+> report
+procedure grow
+case 1
+  k <= 0
+  inner' = inner
+  tips' = tips + 1
+case 2
+  -k + 1 <= 0
+  inner - $1 + 1 <= 0
+  tips - $2 + 1 <= 0
+  $1 - $3 <= 0
+  $2 - $4 + 1 <= 0
+  inner' = $3
+  tips' = $4
+reached grow
+  -inner + tips <= 0
+returned grow
+  -inner' + tips' - 1 <= 0
+  -inner' <= 0
+  -tips' + 1 <= 0
+  inner - tips - inner' + tips' - 1 = 0
+assertion 1 at 3:60 proved
+total 1 proved, 0 unproved
+
+> procedure two ; b ;  ; 1 ; 
+1 ; $1
+> procedure main ;  ;  ; 1 ; 
+2 | -$1 <= 0 | $1 - 3 <= 0 ; $2
+> rows 1 two ; b k s ; 
+-x2 <= 0
+x2 - 4 <= 0
+x0 - x2 - 4 <= 0
+x1 - x2 - 6 <= 0
+-x0 + x2 <= 0
+-x1 + x2 - 3 <= 0
+> rows return two ; b ; 
+-x1 <= 0
+x1 - 4 <= 0
+> assertion 2 34 @ r @ 0 @ proved
+> assertion 2 50 @ r @ 0 @ 1 | -$1 + 4 <= 0 ; $1 @ 4
+> report
+procedure two
+case 1
+  $ret = $1
+procedure main
+case 1
+  -$1 <= 0
+  $1 - 3 <= 0
+  $ret = $2
+reached two loop 1
+  -s <= 0
+  s - 4 <= 0
+  b - s - 4 <= 0
+  k - s - 6 <= 0
+  -b + s <= 0
+  -k + s - 3 <= 0
+returned two
+  -$ret <= 0
+  $ret - 4 <= 0
+assertion 1 at 2:34 proved
+assertion 2 at 2:50 unproved
+  -$1 + 4 <= 0
+  r = $1
+  point $1 = 4
+total 1 proved, 1 unproved";
