@@ -97,7 +97,7 @@ module _ (met_exits : ExitRowsAreMet) (program : Program) (known : List (Option 
       arcs-are : arcs_of program proc ≡ (own_graph cover.p).arcs
       arcs-are = ap (λ (o : Option Proc). (flow_of (body_of o)).arcs) here
 
-      state-at : IsStateAt program cover.p state.formula before (globals ++ args)
+      pub state-at : IsStateAt program cover.p state.formula before (globals ++ args)
       state-at =
           let sum = length-append globals args in
           let width = at.walk.width in
@@ -111,7 +111,7 @@ module _ (met_exits : ExitRowsAreMet) (program : Program) (known : List (Option 
       knows : AllByRecursion (λ (way : Arc). KnowsCallee known way.act) (arcs_of program proc)
       knows = subst (λ arcs. AllByRecursion (λ (way : Arc). KnowsCallee known way.act) arcs) (sym arcs-are) (tell.callees proc cover.p here)
 
-      passage-known : (to : ℕ) (after : State) → Passage (ReturnsSaid program say) (length program.globals) (arcs_of program proc) node before to after
+      pub passage-known : (to : ℕ) (after : State) → Passage (ReturnsSaid program say) (length program.globals) (arcs_of program proc) node before to after
           → Passage (KnownCalls all) (length program.globals) (own_graph cover.p).arcs state.node before to after
       passage-known to after p =
           subst (λ n. Passage (KnownCalls all) (length program.globals) (own_graph cover.p).arcs n before to after) (sym node_is)

@@ -13,3 +13,14 @@ pub mod KeptTables
 -- ---- the table that is left, and what the last round leaves: `last_round-kept`
 pub mod TablesLeft
 pub mod RoundsKept
+-- ---- for the code
+-- ways and steps from points
+pub mod WayCells
+pub mod SourceParts
+pub mod StateSteps
+-- the rows at both ends of a step, and rows with their numbers
+pub mod StepEnds
+pub mod NumberedRows
+-- lists of rows that are left, and rounds
+pub mod LeftRows
+pub mod RoundLoops

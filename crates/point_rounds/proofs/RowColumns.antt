@@ -15,9 +15,10 @@ use Rattle.vocabularies.specs.Ends.{entry_width}
 use Rattle.flow_graph.specs.FlowGraph.{graph_of}
 use Rattle.leaf_cases.specs.Conditions.{columns_at, columns_in}
 use Rattle.proc_summary.proofs.Graphs.{proc-fit}
+use Rattle.point_induction.specs.Points.{points_of}
 use Rattle.point_rows.specs.Reading.{AreOverColumns}
 use Rattle.point_rounds.specs.declared.table.PointTable.{PointTable}
-use Rattle.point_rounds.specs.Table.{IsTable, list_at_node, point_columns, points_of, rows_at}
+use Rattle.point_rounds.specs.Table.{IsTable, list_at_node, point_columns, rows_at}
 
 -- rows over columns are over more columns
 pub over-more : (few many : ℕ) (rows : List Row) → few ≤ many → AreOverColumns few rows → AreOverColumns many rows

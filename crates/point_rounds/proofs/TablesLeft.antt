@@ -8,12 +8,13 @@ use Rattle.std.proofs.lemmas.Option.{same_Some}
 use Rattle.linear_terms.specs.declared.row.Row.{Row}
 use Rattle.syntax_tree.specs.declared.program.Program.{Program}
 use Rattle.flow_graph.specs.FlowGraph.{graph_of}
+use Rattle.point_induction.specs.Points.{points_of}
 use Rattle.point_rounds.specs.declared.round.FallenRow.{FallenRow}
 use Rattle.point_rounds.specs.declared.round.RowPlace.{RowPlace}
 use Rattle.point_rounds.specs.declared.round.RowPlace.TheVariants.{AtPoint, AtExit}
 use Rattle.point_rounds.specs.declared.table.PointTable.{PointTable}
 use Rattle.point_rounds.specs.Rounds.{count_at_points, count_of, exits_left, is_fallen, lists_left, points_left, row_count, rows_at_place, rows_left, table_left}
-use Rattle.point_rounds.specs.Table.{ArePlaced, IsTable, list_at_node, points_of, rows_at, rows_at_exit}
+use Rattle.point_rounds.specs.Table.{ArePlaced, IsTable, list_at_node, rows_at, rows_at_exit}
 
 module _ (fell : List FallenRow) where
   -- ---- the rows of a place

@@ -1,20 +1,24 @@
 -- Tables that steps keep, and what is asked of states, of known formulas and of steps.
-use Rattle.std.specs.Prelude.{◌≡◌, ℕ, Option, Some, List, [], ◌++◌, length, slice_get}
+use Rattle.std.specs.Prelude.{◌≡◌, ◌<◌, ◌+◌, ℕ, true, Option, Some, List, [], ◌++◌, length, slice_get}
 use Rattle.std.specs.List.{AllByRecursion}
 use Rattle.syntax_tree.specs.declared.program.Proc.{Proc}
 use Rattle.syntax_tree.specs.declared.program.Program.{Program}
 use Rattle.syntax_tree.specs.Value.{State}
+use Rattle.syntax_tree.specs.WellFormed.{width_of}
 use Rattle.transition_formula.specs.Meaning.{Holds}
 use Rattle.transition_formula.specs.Transition.{Transition}
+use Rattle.vocabularies.specs.Ends.{entry_width}
 use Rattle.vocabularies.specs.Procs.{IsProcOf}
+use Rattle.point_induction.specs.Points.{is_point}
 use Rattle.leaf_cases.specs.Conditions.{AreKnown, columns_at}
 use Rattle.leaf_cases.specs.Summaries.{AreMet}
 use Rattle.proc_summary.specs.Claims.{KnowsCallees}
+use Rattle.proc_summary.specs.Subject.{own_graph}
 use Rattle.point_rows.specs.Exits.{formulas_with_exits}
 use Rattle.point_steps.specs.declared.target.PointStep.{PointStep}
 use Rattle.point_steps.specs.declared.target.Target.{Target}
 use Rattle.point_steps.specs.declared.target.Target.TheVariants as target
-use Rattle.point_steps.specs.Claims.{StepsCover}
+use Rattle.point_steps.specs.Claims.{IsPointStep, IsState, StepsCover}
 use Rattle.point_rounds.specs.declared.round.PointState.{PointState}
 use Rattle.point_rounds.specs.declared.round.StepFrom.{StepFrom}
 use Rattle.point_rounds.specs.declared.table.PointTable.{PointTable}
@@ -45,6 +49,30 @@ abbrev pub AreKeptBy : Program → List StepFrom → PointTable → Type 0
 AreKeptBy program steps table = KeepsRows program table (IsStepFrom program steps)
 
 -- ---- what is asked of states, of known formulas and of steps
+
+-- the state of a point of a procedure of the program, over the columns of the procedure and then
+-- those of its entry
+pub record IsPointState (program : Program) (state : PointState) : Type 0 where
+  pub p : Proc
+  pub is : IsProcOf program state.proc p
+  pub node : state.node < (own_graph p).nodes
+  pub point : is_point (own_graph p).arcs state.node ≡ true
+  pub fits : IsState (width_of program p + entry_width program p) state.formula
+
+-- each of the states is one
+abbrev pub ArePointStates : Program → List PointState → Type 0
+ArePointStates program states = AllByRecursion (IsPointState program) states
+
+-- the step of a node of a procedure of the program
+pub record IsStepOf (program : Program) (from : StepFrom) : Type 0 where
+  pub p : Proc
+  pub is : IsProcOf program from.proc p
+  pub node : from.node < (own_graph p).nodes
+  pub fits : IsPointStep program p from.step
+
+-- each step is one
+abbrev pub AreStepsFrom : Program → List StepFrom → Type 0
+AreStepsFrom program = AllByRecursion (IsStepOf program)
 
 -- a state of the point holds of these numbers
 pub record HasState (states : List PointState) (proc node : ℕ) (numbers : State) : Type 0 where

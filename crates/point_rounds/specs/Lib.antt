@@ -8,5 +8,9 @@ pub mod Steps
 pub mod Closed
 -- rounds of questions
 pub mod Rounds
+-- what rounds are made of
+pub mod Source
 -- the laws
 pub mod Laws
+-- ---- words of proofs
+pub mod Parts

@@ -13,7 +13,9 @@ use Rattle.transition_formula.specs.Transition.{Transition}
 use Rattle.posing.specs.Posing.{Posing, Done, answer_to, ◌>>=◌, each, until}
 use Rattle.polyhedra.specs.Infeasibility.{is_yes}
 use Rattle.flow_graph.specs.FlowGraph.{graph_of}
+use Rattle.point_induction.specs.Points.{points_of}
 use Rattle.leaf_cases.specs.Conditions.{columns_at}
+use Rattle.point_induction.specs.Points.{points_of}
 use Rattle.point_rows.specs.Exits.{formulas_with_exits}
 use Rattle.point_rows.specs.Reading.{contraries_of, given_rows}
 use Rattle.point_ways.specs.Ways.{ways_from}
@@ -28,7 +30,7 @@ use Rattle.point_rounds.specs.declared.round.RowPlace.{RowPlace}
 use Rattle.point_rounds.specs.declared.round.RowPlace.TheVariants.{AtPoint, AtExit}
 use Rattle.point_rounds.specs.declared.round.StepFrom.{StepFrom}
 use Rattle.point_rounds.specs.declared.table.PointTable.{PointTable}
-use Rattle.point_rounds.specs.Table.{points_of, rows_at, rows_at_exit}
+use Rattle.point_rounds.specs.Table.{rows_at, rows_at_exit}
 
 -- ---- the steps by a table
 

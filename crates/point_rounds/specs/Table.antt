@@ -6,8 +6,8 @@ use Rattle.syntax_tree.specs.declared.program.Program.{Program}
 use Rattle.syntax_tree.specs.WellFormed.{width_of}
 use Rattle.vocabularies.specs.Ends.{entry_width}
 use Rattle.vocabularies.specs.Procs.{IsProcOf}
-use Rattle.flow_graph.specs.FlowGraph.{FlowGraph, graph_of}
-use Rattle.point_induction.specs.Points.{heads_of}
+use Rattle.flow_graph.specs.FlowGraph.{graph_of}
+use Rattle.point_induction.specs.Points.{points_of}
 use Rattle.leaf_cases.specs.Conditions.{exits_of}
 use Rattle.point_rows.specs.Exits.{exit_rows_at}
 use Rattle.point_rows.specs.Reading.{AreOverColumns}
@@ -18,10 +18,6 @@ abbrev pub most_rows_at_point : ℕ
 most_rows_at_point = 96
 
 -- ---- places
-
--- the points of a graph in their order: the entry, and then the heads
-abbrev pub points_of : FlowGraph → List ℕ
-points_of graph = 0 ∷ heads_of graph
 
 -- what stands for a point in a list that has one for each of these points; nothing where the point
 -- is none of them

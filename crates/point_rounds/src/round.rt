@@ -28,16 +28,18 @@ pub struct PointRound {
     pub steps: Items<StepFrom>,
 }
 
-/// Where rows stand: at a point, by its node, or at the exit of a procedure.
+/// Where rows stand.
 #[derive(Clone, Copy)]
-pub(crate) enum RowPlace {
+pub enum RowPlace {
+    /// At a point of the procedure of that number, by its node.
     AtPoint { proc: u32, node: u32 },
+    /// At the exit of the procedure of that number.
     AtExit { proc: u32 },
 }
 
-/// A row that fell: its place, and its number among the rows there.
+/// A row that fell: its place, and its number among the rows there, from 0.
 #[derive(Clone, Copy)]
-pub(crate) struct FallenRow {
-    pub(crate) place: RowPlace,
-    pub(crate) number: usize,
+pub struct FallenRow {
+    pub place: RowPlace,
+    pub number: usize,
 }

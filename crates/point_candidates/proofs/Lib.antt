@@ -1,0 +1,2 @@
+-- ---- rows over columns, one after another
+pub mod OverRows
