@@ -18,6 +18,7 @@ use Rattle.commands.specs.Input.{IsInput}
 use Rattle.commands.specs.Limits.{most_input}
 use Rattle.commands.specs.Analyse.{IsReplyUnder, IsToAnalyse, IsToFacets, IsToProve, IsToReport}
 use Rattle.commands.specs.Certify.{IsReplyToCertify, IsToCertify, TellsFile, output_too_long}
+use Rattle.commands.specs.Prove.{IsReplyToProve}
 use Rattle.commands.specs.Replay.{IsReplyToReplay, IsToReplay, IsTraceOf}
 use Rattle.commands.specs.Replies.{IsReply, IsReplyToRead, IsReplyToWork}
 use Rattle.commands.specs.Within.{OrRefused, OrWrong}
@@ -36,23 +37,31 @@ analysed rule all program reply short a (inl (long, is)) = absurd (omega arith)
 analysed rule all program reply short a (inr (fits, inl (report, answers, is, e))) = zero-or-one _ reply.status (ap (λ r. r.status) e)
 analysed rule all program reply short a (inr (fits, inr (refusal, is, e))) = absurd (not-refused all program refusal a is)
 
--- Work whose reply is a report under a rule, and what is asked of all that the source has.
-module _ (work : Work) (rule : ℕ) (words : List (List ℕ)) (before after : Option (List ℕ)) (reply : Reply) (a : IsToReport work words before) where
-  -- all of the text is read, and its report answered
-  pub text-answered : IsReplyToRead most_bytes (IsReplyUnder rule) before after reply → IsReplyUnder rule a.input reply
+proved : (all : List ℕ) (program : Program) (reply : Reply) → length all ≤ most_bytes → Accepts all program → IsReplyToProve all reply
+    → (reply.status ≡ AllProved) ⊎ (reply.status ≡ SomeUnproved)
+proved all program reply short a (inl (long, is)) = absurd (omega arith)
+proved all program reply short a (inr (fits, inl (made, is, e))) = zero-or-one _ reply.status (ap (λ r. r.status) e)
+proved all program reply short a (inr (fits, inr (refusal, is, e))) = absurd (not-refused all program refusal a is)
+
+-- Work whose reply is one to a text, and what is asked of all that the source has.
+module _ (work : Work) (Answers : List ℕ → Reply → Type 0) (words : List (List ℕ)) (before after : Option (List ℕ)) (reply : Reply) (a : IsToReport work words before) where
+  -- all of the text is read and answered
+  pub text-answered : IsReplyToRead most_bytes Answers before after reply → Answers a.input reply
   text-answered read =
       let all = whole-input most_bytes a.input read.input a.short (subst (λ before. IsInput most_bytes before read.input) a.whole read.is_input) in
-      subst (λ input. IsReplyUnder rule input reply) all read.is_reply
+      subst (λ input. Answers input reply) all read.is_reply
 
+-- a report under a rule
+module _ (work : Work) (rule : ℕ) (words : List (List ℕ)) (before after : Option (List ℕ)) (reply : Reply) (a : IsToReport work words before) where
   complete-report : IsReplyToRead most_bytes (IsReplyUnder rule) before after reply → (reply.status ≡ AllProved) ⊎ (reply.status ≡ SomeUnproved)
-  complete-report read = analysed rule a.input a.program reply a.short a.accepted (text-answered read)
+  complete-report read = analysed rule a.input a.program reply a.short a.accepted (text-answered work (IsReplyUnder rule) words before after reply a read)
 
 module _ (words : List (List ℕ)) (before after : Option (List ℕ)) (reply : Reply) where
   pub complete : IsToAnalyse words before → IsReply words before after reply → (reply.status ≡ AllProved) ⊎ (reply.status ≡ SomeUnproved)
   complete a answer = complete-report Analyse 2 words before after reply a (subst (λ work. IsReplyToWork work before after reply) a.asked answer)
 
   pub complete-prove : IsToProve words before → IsReply words before after reply → (reply.status ≡ AllProved) ⊎ (reply.status ≡ SomeUnproved)
-  complete-prove a answer = complete-report Prove 4 words before after reply a (subst (λ work. IsReplyToWork work before after reply) a.asked answer)
+  complete-prove a answer = proved a.input a.program reply a.short a.accepted (text-answered Prove IsReplyToProve words before after reply a (subst (λ work. IsReplyToWork work before after reply) a.asked answer))
 
   pub complete-facets : IsToFacets words before → IsReply words before after reply → (reply.status ≡ AllProved) ⊎ (reply.status ≡ SomeUnproved)
   complete-facets a answer = complete-report Facets 3 words before after reply a (subst (λ work. IsReplyToWork work before after reply) a.asked answer)

@@ -4,6 +4,10 @@ pub mod Complete
 pub mod FilePasses
 -- What the ends of a run say of executions.
 pub mod Sentences
+-- Rows at points are true of a program where they are so of it under a rule.
+pub mod RuledPoints
+-- What proving the program of a text tells of the text.
+pub mod ProvedTexts
 -- What is read and written.
 pub mod Inputs
 pub mod Outputs

@@ -22,7 +22,10 @@ use Rattle.report.specs.declared.blocks.Report.{Report}
 use Rattle.report.specs.declared.verdict.Verdict.{Verdict}
 use Rattle.report.specs.declared.verdict.Verdict.TheVariants as verdict
 use Rattle.report.specs.Claims.{ClaimsAreMet, ReportCovers}
+use Rattle.report.specs.Points.{text_with_points}
 use Rattle.report.specs.Text.{is_proof, is_proved, proved_count, text_of}
+use Rattle.point_reports.specs.declared.whole.PointReport.{PointReport}
+use Rattle.point_reports.specs.Claims.{AreAllMet}
 use Rattle.summary_cache.specs.Accepted.{Accepts}
 use Rattle.summary_cache.specs.Limits.{most_bytes}
 use Rattle.summary_cache.proofs.Complete.{accepted-once, not-refused}
@@ -37,6 +40,7 @@ use Rattle.commands.specs.declared.words.Work.{Work}
 use Rattle.commands.specs.declared.words.Work.TheVariants.{Analyse, Facets, Prove}
 use Rattle.commands.specs.Analyse.{IsReplyUnder, IsToAnalyse, IsToFacets, IsToProve, IsToReport}
 use Rattle.commands.specs.Check.{IsCheckOf, IsReplyToCheck, IsShown, IsToCheck, answers_of, compared_reply, finished_reply, posed_reply, rule_of}
+use Rattle.commands.specs.Prove.{IsProved, IsReplyToProve, IsTrueProof}
 use Rattle.commands.specs.Replay.{IsReplyToReplay, IsToReplay, IsTraceOf}
 use Rattle.commands.specs.Replies.{IsReply, IsReplyToRead, IsReplyToWork}
 use Rattle.commands.specs.Stated.{IsAnalysedUnder}
@@ -121,13 +125,40 @@ told-text rule all program reply short a (inr (fits, inl (report, answers, is, t
     subst (IsTrueText program) (sym (ap (λ (r : Reply). r.text) told)) (true-report rule all program answers report a is)
 told-text rule all program reply short a (inr (fits, inr (refusal, is, told))) = absurd (not-refused all program refusal a is)
 
+-- a text whose report has what holds at points
+sound-proof : (all : List ℕ) (program : Program) (reply : Reply) → Accepts all program → IsReplyToProve all reply → reply.status ≡ AllProved → NoAssertionFails program
+sound-proof all program reply a (inl (long, is)) e = absurd (cc (sym (ap (λ (r : Reply). r.status) is) ∙ e))
+sound-proof all program reply a (inr (fits, inl (made, (answers, is), told))) e =
+    let none = zero-of (length made.report.judged - proved_count made.report.judged) (sym (ap (λ (r : Reply). r.status) told) ∙ e) in
+    let same : is.program ≡ program = accepted-once all is.program program is.planned.accepted a in
+    subst NoAssertionFails same (none-fails is.program made.report is.covers is.met.claims none)
+sound-proof all program reply a (inr (fits, inr (refusal, is, told))) e = absurd (cc (sym (ap (λ (r : Reply). r.status) told) ∙ e))
+
+-- it is true of its program
+true-proof : (all : List ℕ) (program : Program) (made : PointReport) → Accepts all program → IsProved all made → IsTrueProof program (text_with_points made.report made.points)
+true-proof all program made a (answers, is) =
+    let same : is.program ≡ program = accepted-once all is.program program is.planned.accepted a in
+    record {
+      made = made;
+      told = refl;
+      covers = subst (λ (p : Program). ReportCovers p made.report) same is.covers;
+      met = subst (λ (p : Program). AreAllMet p made) same is.met;
+      points = is.points;
+    }
+
+told-proof : (all : List ℕ) (program : Program) (reply : Reply) → length all ≤ most_bytes → Accepts all program → IsReplyToProve all reply → IsTrueProof program reply.text
+told-proof all program reply short a (inl (long, is)) = absurd (omega (arith, short, long))
+told-proof all program reply short a (inr (fits, inl (made, is, told))) =
+    subst (IsTrueProof program) (sym (ap (λ (r : Reply). r.text) told)) (true-proof all program made a is)
+told-proof all program reply short a (inr (fits, inr (refusal, is, told))) = absurd (not-refused all program refusal a is)
+
 -- work whose reply is a report under a rule
 module _ (work : Work) (rule : ℕ) (words : List (List ℕ)) (before after : Option (List ℕ)) (reply : Reply) (a : IsToReport work words before) where
   sound-report : IsReplyToRead most_bytes (IsReplyUnder rule) before after reply → reply.status ≡ AllProved → NoAssertionFails a.program
-  sound-report read e = sound-text rule a.input a.program reply a.accepted (text-answered work rule words before after reply a read) e
+  sound-report read e = sound-text rule a.input a.program reply a.accepted (text-answered work (IsReplyUnder rule) words before after reply a read) e
 
   report-text : IsReplyToRead most_bytes (IsReplyUnder rule) before after reply → IsTrueText a.program reply.text
-  report-text read = told-text rule a.input a.program reply a.short a.accepted (text-answered work rule words before after reply a read)
+  report-text read = told-text rule a.input a.program reply a.short a.accepted (text-answered work (IsReplyUnder rule) words before after reply a read)
 
 -- each word under its rule
 module _ (words : List (List ℕ)) (before after : Option (List ℕ)) (reply : Reply) where
@@ -135,7 +166,7 @@ module _ (words : List (List ℕ)) (before after : Option (List ℕ)) (reply : R
   sound a answer = sound-report Analyse 2 words before after reply a (subst (λ work. IsReplyToWork work before after reply) a.asked answer)
 
   pub sound-prove : (asked : IsToProve words before) → IsReply words before after reply → reply.status ≡ AllProved → NoAssertionFails asked.program
-  sound-prove a answer = sound-report Prove 4 words before after reply a (subst (λ work. IsReplyToWork work before after reply) a.asked answer)
+  sound-prove a answer e = sound-proof a.input a.program reply a.accepted (text-answered Prove IsReplyToProve words before after reply a (subst (λ work. IsReplyToWork work before after reply) a.asked answer)) e
 
   pub sound-facets : (asked : IsToFacets words before) → IsReply words before after reply → reply.status ≡ AllProved → NoAssertionFails asked.program
   sound-facets a answer = sound-report Facets 3 words before after reply a (subst (λ work. IsReplyToWork work before after reply) a.asked answer)
@@ -143,8 +174,8 @@ module _ (words : List (List ℕ)) (before after : Option (List ℕ)) (reply : R
   pub true-text : (asked : IsToAnalyse words before) → IsReply words before after reply → IsTrueText asked.program reply.text
   true-text a answer = report-text Analyse 2 words before after reply a (subst (λ work. IsReplyToWork work before after reply) a.asked answer)
 
-  pub proved-text : (asked : IsToProve words before) → IsReply words before after reply → IsTrueText asked.program reply.text
-  proved-text a answer = report-text Prove 4 words before after reply a (subst (λ work. IsReplyToWork work before after reply) a.asked answer)
+  pub proved-text : (asked : IsToProve words before) → IsReply words before after reply → IsTrueProof asked.program reply.text
+  proved-text a answer = told-proof a.input a.program reply a.short a.accepted (text-answered Prove IsReplyToProve words before after reply a (subst (λ work. IsReplyToWork work before after reply) a.asked answer))
 
   pub facets-text : (asked : IsToFacets words before) → IsReply words before after reply → IsTrueText asked.program reply.text
   facets-text a answer = report-text Facets 3 words before after reply a (subst (λ work. IsReplyToWork work before after reply) a.asked answer)

@@ -1,4 +1,4 @@
--- What is answered to `cra analyse`, `cra prove` and `cra facets`: the text of a report.
+-- What is answered to `cra analyse` and `cra facets`: the text of a report.
 use Rattle.std.specs.Prelude.{◌≡◌, ℕ, ◌≤◌, ◌==◌, ◌-◌, List, length, Option, Some, if◌then◌else◌}
 use Rattle.farkas_check.specs.declared.answer.Answer.{Answer}
 use Rattle.syntax_tree.specs.declared.program.Program.{Program}
@@ -35,10 +35,6 @@ IsReplyUnder rule input reply =
 -- its report under the second rule, which certificate files have too
 abbrev pub IsReplyToAnalyse : List ℕ → Reply → Type 0
 IsReplyToAnalyse = IsReplyUnder 2
-
--- its report under the rule of phases
-abbrev pub IsReplyToProve : List ℕ → Reply → Type 0
-IsReplyToProve = IsReplyUnder 4
 
 -- its report under the rule of facets
 abbrev pub IsReplyToFacets : List ℕ → Reply → Type 0

@@ -9,6 +9,7 @@ pub mod Stated
 pub mod Within
 pub mod Told
 pub mod Analyse
+pub mod Prove
 pub mod Certify
 pub mod Check
 pub mod Edit

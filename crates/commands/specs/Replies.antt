@@ -6,13 +6,14 @@ use Rattle.summary_cache.specs.Limits.{most_bytes}
 use Rattle.commands.specs.declared.reply.Reply.{Reply}
 use Rattle.commands.specs.declared.words.Work.{Work}
 use Rattle.commands.specs.declared.words.Work.TheVariants.{Analyse, Certify, Check, Edit, Sample, Renew, Replay, Cost, Prove, Facets, Help, Version}
-use Rattle.commands.specs.Analyse.{IsReplyToAnalyse, IsReplyToFacets, IsReplyToProve}
+use Rattle.commands.specs.Analyse.{IsReplyToAnalyse, IsReplyToFacets}
 use Rattle.commands.specs.Certify.{IsReplyToCertify}
 use Rattle.commands.specs.Check.{IsReplyToCheck}
 use Rattle.commands.specs.Cost.{IsReplyToCost}
 use Rattle.commands.specs.Edit.{IsReplyToEdit}
 use Rattle.commands.specs.Input.{IsInput}
 use Rattle.commands.specs.Limits.{most_file, most_input}
+use Rattle.commands.specs.Prove.{IsReplyToProve}
 use Rattle.commands.specs.Renew.{IsReplyToRenew}
 use Rattle.commands.specs.Replay.{IsReplyToReplay}
 use Rattle.commands.specs.Sample.{IsReplyToSample}

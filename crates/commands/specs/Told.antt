@@ -8,7 +8,7 @@ abbrev pub help_text : List ℕ
 help_text =
     codes "cra: a verified analyser of numeric C\n\nusage: cra analyse | certify | check | edit | sample N | renew | replay | facets | cost NAME\n\n"
     ++ codes "  analyse    reads the text of a program, and prints what is proved of it\n"
-    ++ codes "  prove      reads the text of a program, and prints what is proved of it with phases of loops and products of rows\n"
+    ++ codes "  prove      reads the text of a program, and prints what is proved of it with phases of loops, products of rows and rows at points\n"
     ++ codes "  facets     reads the text of a program, and prints what is proved of it with loops bounded along the facets of their changes\n"
     ++ codes "  certify    reads the text of a program, and prints its report with all that shows it, as JSON\n"
     ++ codes "  check      reads a certificate file, and prints whether its answers show its report\n"

@@ -1,7 +1,7 @@
 ghost use Rattle.std.specs.Prelude.{◌≡◌, ◌≤◌, length, IfOk};
 ghost use Rattle.summary_cache.specs.Limits.{most_bytes};
 ghost use Rattle.summary_cache.specs.Rules.{IsRule};
-ghost use Rattle.commands.specs.Analyse.{IsReplyToAnalyse, IsReplyToFacets, IsReplyToProve, IsReplyUnder, TellsReport, report_reply};
+ghost use Rattle.commands.specs.Analyse.{IsReplyToAnalyse, IsReplyToFacets, IsReplyUnder, TellsReport, report_reply};
 ghost use Rattle.commands.specs.Status.{IsAnswer};
 ghost use Rattle.commands.specs.Within.{OrRefused};
 
@@ -62,14 +62,6 @@ pub fn analyse_reply(alloc: Global, input: &[u8]) -> Result<Reply, AllocError>
     ensures status { IfOk result (λ reply. IsAnswer reply.status) }
 {
     input_reply(alloc, input, 2)
-}
-
-/// The answer to an input of which as much as can be is to be proved.
-pub fn prove_reply(alloc: Global, input: &[u8]) -> Result<Reply, AllocError>
-    ensures reply { IfOk result (IsReplyToProve input.now) }
-    ensures status { IfOk result (λ reply. IsAnswer reply.status) }
-{
-    input_reply(alloc, input, 4)
 }
 
 /// The answer to an input whose loops are to be bounded along the facets of the hull of their changes.

@@ -13,7 +13,7 @@ cra: a verified analyser of numeric C
 usage: cra analyse | certify | check | edit | sample N | renew | replay | facets | cost NAME
 
   analyse    reads the text of a program, and prints what is proved of it
-  prove      reads the text of a program, and prints what is proved of it with phases of loops and products of rows
+  prove      reads the text of a program, and prints what is proved of it with phases of loops, products of rows and rows at points
   facets     reads the text of a program, and prints what is proved of it with loops bounded along the facets of their changes
   certify    reads the text of a program, and prints its report with all that shows it, as JSON
   check      reads a certificate file, and prints whether its answers show its report

@@ -12,6 +12,7 @@ mod input;
 mod laws;
 mod limits;
 mod output;
+mod proving;
 mod refusal;
 mod renewing;
 mod replaying;

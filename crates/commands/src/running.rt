@@ -9,6 +9,7 @@ ghost use Rattle.commands.specs.Certify.{IsToCertify};
 ghost use Rattle.commands.specs.Check.{IsToCheck, IsToCheckCertified};
 ghost use Rattle.commands.specs.Cost.{HasGlobal, HasNoGlobal, IsToCost};
 ghost use Rattle.commands.specs.Edit.{IsToEdit};
+ghost use Rattle.commands.specs.Prove.{TellsTrueProof};
 ghost use Rattle.commands.specs.Renew.{IsToRenew, IsToRenewCertified};
 ghost use Rattle.commands.specs.Replay.{IsToReplay};
 ghost use Rattle.commands.specs.Replies.{IsReply, IsReplyToWork};
@@ -17,7 +18,7 @@ ghost use Rattle.commands.specs.Status.{IsAnswer};
 ghost use Rattle.commands.specs.Tame.{TameTextsHaveNoLimit};
 ghost use Rattle.commands.specs.Words.{reads_source, work_of};
 
-use crate::analysing::{analyse_reply, facets_reply, prove_reply};
+use crate::analysing::{analyse_reply, facets_reply};
 use crate::certifying::certify_reply;
 use crate::checking::check_reply;
 use crate::costing::cost_reply;
@@ -27,6 +28,7 @@ use crate::input::{InputError, read_input};
 use crate::laws::tame_texts_have_no_limit;
 use crate::limits::{MOST_FILE, MOST_INPUT, PIECE};
 use crate::output::write_all;
+use crate::proving::prove_reply;
 use crate::renewing::renew_reply;
 use crate::replaying::replay_reply;
 use crate::reply::Reply;
@@ -129,13 +131,14 @@ pub fn run<R: Source, W: Sink>(
     ensures told { (asked : IsToAnalyse (map string_bytes words.now) (R.left source.old))
         → IsAnswer result
         → TellsTrueText asked.program (W.taken sink.old) (W.taken sink.new) }
-    // Asked to prove, it says and writes the same.
+    // Asked to prove, it says the same, and writes a report with what holds at points, the claims of
+    // which are met too.
     ensures sound_prove { (asked : IsToProve (map string_bytes words.now) (R.left source.old))
         → result ≡ Status.AllProved → NoAssertionFails asked.program }
     ensures told_prove { (asked : IsToProve (map string_bytes words.now) (R.left source.old))
         → IsAnswer result
-        → TellsTrueText asked.program (W.taken sink.old) (W.taken sink.new) }
-    // So it does asked for the report along facets.
+        → TellsTrueProof asked.program (W.taken sink.old) (W.taken sink.new) }
+    // Asked for the report along facets, it says and writes what it does asked to analyse.
     ensures sound_facets { (asked : IsToFacets (map string_bytes words.now) (R.left source.old))
         → result ≡ Status.AllProved → NoAssertionFails asked.program }
     ensures told_facets { (asked : IsToFacets (map string_bytes words.now) (R.left source.old))

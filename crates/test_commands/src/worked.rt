@@ -237,7 +237,7 @@ const SLOPES: &[u8] =
 // A loop of two phases, the product of two facts, a recursion by two calls, a sum of products, and a
 // column whose change reads columns of which it is not known what a turn makes of them; two slopes
 // along facets and without them, a body beyond the counts of facets, and a text that is refused.
-const PROOFS: [(&str, &[u8], u8, &[u8]); 9] = [
+const PROOFS: [(&str, &[u8], u8, &[u8]); 14] = [
     (
         "prove",
         b"int main(void) { int t = 0; int h = 0;\n  while (t < 60) { if (t < 20) h = h + 3; else h = h - 1; t = t + 1; }\n  assert(h == 20); }\n",
@@ -266,7 +266,37 @@ const PROOFS: [(&str, &[u8], u8, &[u8]); 9] = [
         "prove",
         b"int main(void) { int n = __VERIFIER_nondet_int(); int m = __VERIFIER_nondet_int();\n  int i = 0; int x = 0; int y = 0; int v = 0; int w = 0;\n  while (i < m) { int r = __VERIFIER_nondet_int();\n    w = w + v * n; v = v + x + y; x = x + r; y = y - r + 1; i = i + 1; }\n  assert(w == 0); }\n",
         1,
-        b"procedure main\ncase 1\n  $1 <= 0\n  $ret = $2\ncase 2\n  $2*$2 - 2*$1 - $2 = 0\n  -$2 + 1 <= 0\n  $ret = $3\nassertion 1 at 5:3 unproved\n  $6*$6 - 2*$3 - $6 = 0\n  -$6 + 1 <= 0\n  $4 + 1 <= 0\n  n = $1\n  m = $6\n  i = $6\n  x = -$2 + $6\n  y = $2\n  v = $3\n  w = $4\n  r = $5\n  point $6*$6 = 1, $3 = 0, $4 = -1, $6 = 1\ntotal 0 proved, 1 unproved\n",
+        b"procedure main\ncase 1\n  $1 <= 0\n  $ret = $2\ncase 2\n  $2*$2 - 2*$1 - $2 = 0\n  -$2 + 1 <= 0\n  $ret = $3\nreached main loop 1\n  -v <= 0\nassertion 1 at 5:3 unproved\n  $6*$6 - 2*$3 - $6 = 0\n  -$6 + 1 <= 0\n  $4 + 1 <= 0\n  n = $1\n  m = $6\n  i = $6\n  x = -$2 + $6\n  y = $2\n  v = $3\n  w = $4\n  r = $5\n  point $6*$6 = 1, $3 = 0, $4 = -1, $6 = 1\ntotal 0 proved, 1 unproved\n",
+    ),
+    (
+        "prove",
+        b"int main(void) { int open = 0; int n = 0;\n  while (__VERIFIER_nondet_int()) {\n    if (open == 0) { open = 1; n = n + 1; } else { open = 0; n = n - 1; } }\n  assert(n == open); }\n",
+        0,
+        b"procedure main\ncase 1\n  $ret = $1\ncase 2\n  -$2 + 1 <= 0\n  $1 - 1 <= 0\n  -$1 <= 0\n  $1 - $2 <= 0\n  -$1 - $2 <= 0\n  $ret = $3\nreached main loop 1\n  n - 1 <= 0\n  open - n = 0\nassertion 1 at 4:3 proved\ntotal 1 proved, 0 unproved\n",
+    ),
+    (
+        "prove",
+        b"int main(void) { int a = __VERIFIER_nondet_int(); int b = __VERIFIER_nondet_int(); int q = 0; int r = a;\n  assume(b >= 1);\n  while (r >= b) { int t = __VERIFIER_nondet_int(); assume(t >= 1); r = r - t * b; q = q + t; }\n  assert(a == q * b + r); }\n",
+        0,
+        b"procedure main\ncase 1\n  -$2 + 1 <= 0\n  $1 - $2 + 1 <= 0\n  $ret = $3\ncase 2\n  -$1 + 1 <= 0\n  -$5 + 1 <= 0\n  -$1*$2 + $1 - $3 <= 0\n  -$4 + 1 <= 0\n  -$2 + $5 <= 0\n  -$1 + $3 + 1 <= 0\n  $ret = $6\nreached main loop 1\n  b*q - a + r = 0\nassertion 1 at 4:3 proved\ntotal 1 proved, 0 unproved\n",
+    ),
+    (
+        "prove",
+        b"int inner = 0; int tips = 0;\nvoid grow(int k) { if (k <= 0) { tips = tips + 1; return; } inner = inner + 1; grow(k - 1); grow(k - 2); }\nint main(void) { int k = __VERIFIER_nondet_int(); grow(k); assert(tips == inner + 1); }\n",
+        0,
+        b"procedure grow\ncase 1\n  k <= 0\n  inner' = inner\n  tips' = tips + 1\ncase 2\n  -k + 1 <= 0\n  inner - $1 + 1 <= 0\n  tips - $2 + 1 <= 0\n  $1 - $3 <= 0\n  $2 - $4 + 1 <= 0\n  inner' = $3\n  tips' = $4\nnote dropped k - 2 <= 0 point inner = -1, tips = -2, k = 3, $1 = 0, $2 = -1, $3 = 0, $4 = 0\nnote dropped -inner + inner' - 3 <= 0 point inner = -4, tips = -2, k = 1, $1 = 0, $2 = -1, $3 = 0, $4 = 0\nnote dropped -tips + tips' - 4 <= 0 point inner = -1, tips = -5, k = 1, $1 = 0, $2 = -1, $3 = 0, $4 = 0\nprocedure main\ncase 1\n  $1 <= 0\n  inner - tips = 0\n  inner' = inner\n  tips' = tips + 1\n  $ret = $2\ncase 2\n  -$1 + 1 <= 0\n  inner - $2 + 1 <= 0\n  tips - $3 + 1 <= 0\n  $2 - $4 + 1 <= 0\n  $3 - $4 + 1 <= 0\n  inner' = $4 - 1\n  tips' = $4\n  $ret = $5\nreached grow\n  -inner + tips <= 0\nreturned grow\n  -inner' + tips' - 1 <= 0\n  -inner' <= 0\n  -tips' + 1 <= 0\n  inner - tips - inner' + tips' - 1 = 0\nassertion 1 at 3:60 proved\ntotal 1 proved, 0 unproved\n",
+    ),
+    (
+        "prove",
+        b"int main(void) { int open = 0; int n = 0;\n  while (__VERIFIER_nondet_int()) { if (open == 0) { open = 1; n = n + 1; } else open = 0; }\n  assert(n == open); }\n",
+        1,
+        b"procedure main\ncase 1\n  $ret = $1\ncase 2\n  -$2 + 1 <= 0\n  $1 - 1 <= 0\n  -$1 <= 0\n  $1 - $2 <= 0\n  $ret = $3\nassertion 1 at 3:3 unproved\n  -$3 + 1 <= 0\n  $1 - 1 <= 0\n  -$1 <= 0\n  $2 - $3 <= 0\n  -$2 <= 0\n  $1 - $2 + 1 <= 0\n  open = $1\n  n = $2\n  point $1 = 1, $2 = 2, $3 = 2\ntotal 0 proved, 1 unproved\n",
+    ),
+    (
+        "prove",
+        b"int two(int b) { int k = 0; int s = 0; while (k < 6) { if (s == 0) s = b; else s = 0; k = k + 1; } return s; }\nint main(void) { int r = two(4); assert(r >= 0); assert(r <= 3); }\n",
+        1,
+        b"procedure two\ncase 1\n  $ret = $1\nprocedure main\ncase 1\n  -$1 <= 0\n  $1 - 3 <= 0\n  $ret = $2\nreached two loop 1\n  -s <= 0\n  s - 4 <= 0\n  b - s - 4 <= 0\n  k - s - 6 <= 0\n  -b + s <= 0\n  -k + s - 3 <= 0\nreturned two\n  -$ret <= 0\n  $ret - 4 <= 0\nassertion 1 at 2:34 proved\nassertion 2 at 2:50 unproved\n  -$1 + 4 <= 0\n  r = $1\n  point $1 = 4\ntotal 1 proved, 1 unproved\n",
     ),
     (
         "facets",

@@ -5,11 +5,12 @@ use Rattle.commands.specs.declared.words.Work.TheVariants.{Analyse, Certify, Che
 use Rattle.commands.specs.Input.{IsInput}
 use Rattle.summary_cache.specs.Limits.{most_bytes}
 use Rattle.commands.specs.Limits.{most_file, most_input}
-use Rattle.commands.specs.Analyse.{IsReplyToAnalyse, IsReplyToFacets, IsReplyToProve}
+use Rattle.commands.specs.Analyse.{IsReplyToAnalyse, IsReplyToFacets}
 use Rattle.commands.specs.Certify.{IsReplyToCertify}
 use Rattle.commands.specs.Check.{IsReplyToCheck}
 use Rattle.commands.specs.Cost.{IsReplyToCost}
 use Rattle.commands.specs.Edit.{IsReplyToEdit}
+use Rattle.commands.specs.Prove.{IsReplyToProve}
 use Rattle.commands.specs.Renew.{IsReplyToRenew}
 use Rattle.commands.specs.Replay.{IsReplyToReplay}
 use Rattle.commands.specs.Replies.{IsReplyToRead, IsReplyToWork}

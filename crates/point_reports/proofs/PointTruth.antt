@@ -1,0 +1,74 @@
+-- The report with what holds at points is true.
+use Rattle.std.proofs.Common.{◌≡◌, ℕ, List, [], Option, Some, sym, ap, subst, ◌∙◌}
+use Rattle.std.specs.Prelude.{IfOk, Result, Ok, Err, map, slice_get}
+use Rattle.std.proofs.lemmas.Option.{slice_get_within}
+use Rattle.items.proofs.Each.{each-more}
+use Rattle.syntax_tree.specs.declared.program.Proc.{Proc}
+use Rattle.syntax_tree.specs.declared.program.Program.{Program}
+use Rattle.syntax_tree.specs.Code.{Statement, Set, Any, Call, Guard, Check, If, Loop, Break, Continue, Return}
+use Rattle.syntax_tree.specs.WellFormed.{IsWellFormed, width_of}
+use Rattle.flow_graph.specs.FlowGraph.{Arc}
+use Rattle.transition_formula.specs.Transition.{Transition}
+use Rattle.leaf_cases.specs.Summaries.{KnowsCallee}
+use Rattle.leaf_cases.proofs.Graphs.{EdgeFits}
+use Rattle.vocabularies.specs.Procs.{IsProcOf}
+use Rattle.proc_summary.specs.Claims.{KnowsCallees}
+use Rattle.proc_summary.specs.Subject.{own_graph}
+use Rattle.context.proofs.WaysFit.{arcs-fit}
+use Rattle.point_induction.specs.Induction.{AreTrue}
+use Rattle.posing.specs.declared.error.WorkError.{WorkError}
+use Rattle.report.specs.declared.blocks.Judged.{Judged}
+use Rattle.report.specs.declared.blocks.ProcBlock.{ProcBlock}
+use Rattle.report.specs.Claims.{ReportCovers}
+use Rattle.point_rounds.specs.declared.round.PointRound.{PointRound}
+use Rattle.point_rounds.specs.declared.round.PointState.{PointState}
+use Rattle.point_rounds.specs.Closed.{CoverTable, StatesHold, TellCalls}
+use Rattle.point_rounds.specs.Sayings.{sayings_of_table}
+use Rattle.analysis.specs.declared.whole.FoundReport.{FoundReport}
+use Rattle.analysis.specs.Claims.{FitsFoundReport, FoundReportHolds}
+use Rattle.point_reports.specs.Claims.{PointRowsAreMet}
+use Rattle.point_reports.specs.declared.whole.PointReport.{PointReport}
+use Rattle.point_reports.specs.Parts.{IsKnownAtPoints, KeepsReport}
+
+-- where no rows are told, none have to be true
+pub none-met : (program : Program) → PointRowsAreMet program []
+none-met program n told at = absurd (cc at)
+
+module _ (program : Program) (made : FoundReport) (formed : IsWellFormed program) (fits : FitsFoundReport program made) where
+  -- each procedure that is called is known
+  callee-known : (width : ℕ) (act : Statement) → EdgeFits program width act → KnowsCallee made.known act
+  callee-known width (Call proc args into) fit = fits.all proc (slice_get_within program.procs proc fit.callee fit.is)
+  callee-known width (Set col value) fit = tt
+  callee-known width (Any col) fit = tt
+  callee-known width (Guard cond) fit = tt
+  callee-known width (Check number cond) fit = tt
+  callee-known width (If cond on_true on_false) fit = tt
+  callee-known width (Loop pre cond body step first) fit = tt
+  callee-known width Break fit = tt
+  callee-known width Continue fit = tt
+  callee-known width Return fit = tt
+
+  pub calls-told : FoundReportHolds program made → TellCalls program made.known
+  calls-told holds = record {
+    fits = fits.known;
+    met = holds.summaries;
+    callees = λ proc p is.
+        each-more (λ (way : Arc). EdgeFits program (width_of program p) way.act) (λ (way : Arc). KnowsCallee made.known way.act) (λ way fit. callee-known (width_of program p) way.act fit) (own_graph p).arcs (arcs-fit program formed proc p is);
+  }
+
+  pub points-known : (states : List PointState) (round : PointRound) (holds : FoundReportHolds program made) → StatesHold program states → CoverTable program made.known states round.steps round.table
+      → AreTrue program (sayings_of_table program round.table) → IsKnownAtPoints program round
+  points-known states round holds reached covered rows = (made.known, states, record { rows = rows; calls = calls-told holds; reached = reached; covered = covered })
+
+-- what keeps the procedures of a report and where its assertions stand covers the program as it does
+pub report-covers : (program : Program) (before : FoundReport) (r : Result PointReport WorkError) → IfOk r (KeepsReport before) → ReportCovers program before.report → IfOk r (λ (made : PointReport). ReportCovers program made.report)
+report-covers program before (Err e) keeps covers = tt
+report-covers program before (Ok made) keeps covers = record {
+  blocks = ap (map (λ (b : ProcBlock). b.name)) keeps.procs ∙ covers.blocks;
+  verdicts = keeps.ats ∙ covers.verdicts;
+  fit = λ proc p block is at. covers.fit proc p block is (subst (λ blocks. slice_get blocks proc ≡ Some block) keeps.procs at);
+}
+
+pub if_ok-both : {A E : Type 0} (P Q R : A → Type 0) (r : Result A E) → ((x : A) → P x → Q x → R x) → IfOk r P → IfOk r Q → IfOk r R
+if_ok-both P Q R (Ok x) more p q = more x p q
+if_ok-both P Q R (Err e) more p q = tt

@@ -1,0 +1,150 @@
+ghost use Rattle.std.specs.Prelude.{◌≡◌, IfOk};
+ghost use Rattle.std.specs.List.{list_all};
+ghost use Rattle.syntax_tree.specs.WellFormed.{IsWellFormed};
+ghost use Rattle.posing.specs.Follows.{Asks};
+ghost use Rattle.report.specs.Claims.{PointsMeetRows, ReportCovers};
+ghost use Rattle.report.specs.Text.{is_proved};
+ghost use Rattle.analysis.specs.Claims.{AreTheirPlaces};
+ghost use Rattle.analysis.specs.Plan.{IsPlan};
+ghost use Rattle.point_rounds.specs.declared.table.PointTable.{PointTable as Table};
+ghost use Rattle.point_reports.specs.Claims.{AreAllMet};
+ghost use Rattle.point_reports.specs.Parts.{IsFoundProof, KeepsReport};
+ghost use Rattle.point_reports.specs.Proof.{points_if_open, proof_by_plan, with_points, without_points};
+
+use crate::again::{JudgedRound, is_proved, judgements_again};
+use crate::blocks::rows_of_table;
+use crate::rounds::{PointGround, rounds_apart};
+use analysis::{FoundReport, Planned, TextPlace, findings_by_plan, found_report, standing_of};
+use farkas_check::Oracle;
+use items::Items;
+use point_rounds::all_heads;
+use posing::{Log, WorkError};
+use report::{PointRows, Report};
+use std::alloc::Global;
+use syntax_tree::Program;
+
+/// A report, and the rows that hold at points of its program and where its procedures return; none
+/// where every assertion is proved without them.
+#[derive(Drop)]
+pub struct PointReport {
+    pub report: Report,
+    pub points: Items<PointRows>,
+}
+
+/// The report of a program by its plan, whose assertions stand at these places of its text, with what
+/// holds at points. The log gains the answers that were taken, in the order of their questions, and no notes:
+/// these stand in the report. What is looked for at points is believed of nothing: any table of rows
+/// is tested by rounds of questions, and what they leave is told.
+///
+/// # Errors
+///
+/// A question that the oracle refused, or want of memory.
+#[tactic(auto, using(posing::proofs::Following::following), unfolding(crate::specs::Proof::proof_by_plan))]
+pub fn prove<O: Oracle>(
+    alloc: Global,
+    program: &Program,
+    places: &[TextPlace],
+    plan: &[Planned],
+    oracle: &mut O,
+    log: &mut Log,
+) -> Result<PointReport, WorkError>
+    requires formed { IsWellFormed program.now }
+    requires plan { IsPlan program.now plan.now }
+    ensures follows { (table : Table) × Asks O.asking oracle log result
+        (proof_by_plan program.now places.now plan.now table) }
+    ensures kept { log.new.notes ≡ log.old.notes }
+    ensures met { IfOk result (AreAllMet program.now) }
+    ensures covers { AreTheirPlaces program.now places.now
+        → IfOk result (λ made. ReportCovers program.now made.report) }
+    ensures points { IfOk result (λ made. PointsMeetRows made.report) }
+{
+    let found = findings_by_plan(alloc, program, plan, oracle, log)?;
+    let made = found_report(alloc, program, places, found, oracle, log)?;
+    points_if_open(alloc, program, made, oracle, log)
+}
+
+/// The report with what holds at points where some assertion is not proved, else as it is.
+fn points_if_open<O: Oracle>(
+    alloc: Global,
+    program: &Program,
+    made: FoundReport,
+    oracle: &mut O,
+    log: &mut Log,
+) -> Result<PointReport, WorkError>
+    requires formed { IsWellFormed program.now }
+    requires made { IsFoundProof program.now made }
+    ensures follows { (table : Table) × Asks O.asking oracle log result
+        (points_if_open program.now made table) }
+    ensures keeps { IfOk result (KeepsReport made) }
+    ensures met { IfOk result (AreAllMet program.now) }
+    ensures points { IfOk result (λ made. PointsMeetRows made.report) }
+{
+    if are_all_proved(&made.report) {
+        return Ok(without_points(alloc, made));
+    }
+    with_points(alloc, program, made, oracle, log)
+}
+
+fn are_all_proved(report: &Report) -> bool
+    ensures { result ≡ list_all is_proved report.now.judged }
+{
+    report.judged.as_slice().iter().all(|one| is_proved(one))
+}
+
+fn without_points(alloc: Global, made: FoundReport) -> PointReport
+    ensures { result ≡ without_points made }
+{
+    PointReport {
+        report: made.report,
+        points: Items::new(alloc),
+    }
+}
+
+/// The report whose assertions are judged once more from points, with the rows that hold there.
+fn with_points<O: Oracle>(
+    alloc: Global,
+    program: &Program,
+    made: FoundReport,
+    oracle: &mut O,
+    log: &mut Log,
+) -> Result<PointReport, WorkError>
+    requires formed { IsWellFormed program.now }
+    requires made { IsFoundProof program.now made }
+    ensures follows { (table : Table) × Asks O.asking oracle log result
+        (with_points program.now made table) }
+    ensures keeps { IfOk result (KeepsReport made) }
+    ensures met { IfOk result (AreAllMet program.now) }
+    ensures points { IfOk result (λ made. PointsMeetRows made.report) }
+{
+    let standing = standing_of(alloc, program)?;
+    let heads = all_heads(alloc, standing.graphs.as_slice())?;
+    let ground = PointGround {
+        program,
+        standing: &standing,
+        heads: heads.as_slice(),
+        made: &made,
+    };
+    let (round, own) = rounds_apart(alloc, ground, oracle, log)?;
+    let left = JudgedRound {
+        program,
+        standing: &standing,
+        heads: heads.as_slice(),
+        round: &round,
+    };
+    let Report {
+        procs,
+        mut notes,
+        judged,
+    } = made.report;
+    let judged = judgements_again(alloc, left, judged.as_slice(), oracle, log)?;
+    notes.append(own)?;
+    let points = rows_of_table(alloc, program, heads.as_slice(), &round.table)?;
+    Ok(PointReport {
+        report: Report {
+            procs,
+            notes,
+            judged,
+        },
+        points,
+    })
+}
