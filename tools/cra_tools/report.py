@@ -1,4 +1,4 @@
-"""Reads a report of `analyse` (docs/FORMATS.md, "The report")."""
+"""Reads a report of `analyse` or of `prove` (docs/FORMATS.md, "The report")."""
 import re
 from dataclasses import dataclass, field
 from fractions import Fraction
@@ -36,10 +36,19 @@ class Verdict:
 
 
 @dataclass
+class Reached:
+    """Rows that hold at a point of a procedure, or where it returns."""
+
+    place: str
+    rows: list = field(default_factory=list)
+
+
+@dataclass
 class Report:
     summaries: list = field(default_factory=list)
     verdicts: list = field(default_factory=list)
     entry_notes: list = field(default_factory=list)
+    reached: list = field(default_factory=list)
     total: str = ""
 
 
@@ -70,6 +79,9 @@ def outer(made, now, line):
     elif found:
         made.verdicts.append(Verdict(*map(int, found.groups()[:3]), found[4] == "proved"))
         return made.verdicts[-1]
+    elif line.startswith(("reached ", "returned ")):
+        made.reached.append(Reached(line))
+        return made.reached[-1]
     elif line.startswith("note "):
         (now.notes if now else made.entry_notes).append(line[len("note ") :])
     elif line.startswith("total "):
@@ -85,6 +97,8 @@ def inner(made, now, line):
     line = line[2:]
     if isinstance(now, Verdict):
         of_verdict(now, line)
+    elif isinstance(now, Reached):
+        now.rows.append(line)
     elif POST.fullmatch(line):
         made.summaries[-1].cases[-1].posts.append(POST.fullmatch(line).groups())
     else:

@@ -16,6 +16,7 @@ class Judged:
     tries: int = 0
     notes: list = field(default_factory=list)
     advice: list = field(default_factory=list)
+    is_proved_by_rows: bool = False
 
     @property
     def mark(self):
@@ -51,6 +52,7 @@ class Story:
     total: str
     judged: list = field(default_factory=list)
     procedures: list = field(default_factory=list)
+    reached: list = field(default_factory=list)
 
     @property
     def lines(self):
@@ -160,6 +162,8 @@ def is_better(text, node, changed, at, report):
 def advice(cra, story, tree, made, it, read_report):
     """What to try for an unproved assertion."""
     text, number, places = story.text, it.verdict.number, language.Places(story.text)
+    if it.is_proved_by_rows:
+        return ["./cra prove proves it (tried)"]
     if it.run:
         return ["the assertion is false, since this run fails it: change the program, or assume what keeps such values out"]
     told = []
@@ -208,6 +212,18 @@ def steps_of(story, tree, run):
     return found
 
 
+def ask_more(cra, story, open_ones, read_report):
+    """What `prove` proves of what is open, and the rows that it tells at points."""
+    status, printed = cra.run("prove", story.text.encode("latin-1"))
+    if status not in (0, 1):
+        return
+    report = read_report(printed)
+    proved = {it.number for it in report.verdicts if it.proved}
+    for it in open_ones:
+        it.is_proved_by_rows = it.verdict.number in proved
+    story.reached = [(it.place, [words.row_words(row, {}) for row in it.rows]) for it in report.reached]
+
+
 def made(cra, file, text, printed, read_report, tries, turns, seed):
     """The story of an accepted text."""
     report, tree = read_report(printed), language.read(text)
@@ -222,6 +238,8 @@ def made(cra, file, text, printed, read_report, tries, turns, seed):
         found = finding.Search(cra, text, tree, report, turns, seed).found([it.verdict.number for it in open_ones], tries)
         for it in open_ones:
             it.run, it.tries = found[it.verdict.number]
+    if open_ones:
+        ask_more(cra, story, open_ones, read_report)
     for it in open_ones:
         it.advice = advice(cra, story, tree, report, it, read_report)
     return story
