@@ -4,15 +4,15 @@ compares status and report.
 
 usage: compare_prove.py [--loops] MODEL_FOLDER PROGRAM [COUNT] [SEED]
 
-The model does more under the rule of phases than the program: it also looks for rows that hold at points. That is switched off in it
-here. What is left are phases, products as lower terms of loops, products of rows in the questions of verdicts, and recursions that are
-told by their last round. Every second program is a made one in which some numbers, names and signs stand in place of others, and every
-fifth one a loop whose turns add products; with --loops each is such a loop, and `analyse` is compared too. A refuting point is free, so its line is compared by what stands before its
-numbers alone. Which questions end with a limit depends on the search: where one of the reports tells of a limit, they are not
-compared, and that is counted. A program for which one of the two takes more than ten seconds is left out, and counted. Besides it is
-counted how many assertions `prove` proves that `analyse` does not, and the other way round.
+Compared are phases, products as lower terms of loops, products of rows in the questions of verdicts, recursions that are told by their
+last round, and the rows that hold at points. Every second program is a made one in which some numbers, names and signs stand in place of
+others, and every fifth one a loop whose turns add products; with --loops each is such a loop, and `analyse` is compared too. A refuting
+point is free, so its line is compared by what stands before its numbers alone. Which questions end with a limit depends on the search:
+where one of the reports tells of a limit, they are not compared, and that is counted. A program for which one of the two takes more than
+ten seconds is left out, and counted. Besides it is counted how many assertions `prove` proves that `analyse` does not, and the other way
+round.
 """
-import os, random, re, signal, subprocess, sys, types
+import os, random, re, signal, subprocess, sys
 
 from compare_programs import LIMIT, blur, proved, run
 from compare_replay import Maker
@@ -23,22 +23,6 @@ sys.path.insert(0, WORDS[0])
 import cra, front, session  # the model
 
 TOKEN = re.compile(rb"\w+|[<>=!&|+*/%-]+|\S")
-
-
-class NoRows:
-    """In place of the model's search for rows at points: it finds none."""
-
-    def __init__(self, *_):
-        self.work = types.SimpleNamespace(answers=[], events=[], notes=[])
-
-    def blocks(self):
-        return []
-
-    def verdict(self, *_):
-        return False
-
-
-sys.modules["reached"] = types.SimpleNamespace(Reached=NoRows)
 
 
 class Slow(Exception):
