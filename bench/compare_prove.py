@@ -21,6 +21,7 @@ LOOPS = "--loops" in sys.argv
 WORDS = [it for it in sys.argv[1:] if it != "--loops"]
 sys.path.insert(0, WORDS[0])
 import cra, front, session  # the model
+import search_counts
 
 TOKEN = re.compile(rb"\w+|[<>=!&|+*/%-]+|\S")
 

@@ -220,6 +220,7 @@ NOTES = [
     (r"limit pivots", "a question has no answer, since the search had no further step; what it would give is missing"),
     (r"dropped (.*?) (?:point .*|limit .*)", "recursion: that {0} holds at every return was a guess, and one more unfolding did not keep it"),
     (r"facets beyond", "a loop was summed up as by `analyse`, since a turn of it has too much for the hull of its changes"),
+    (r"search beyond", "the search for rows at loops, entries and returns came to the end of its counts, so rows may be missing"),
 ]
 
 

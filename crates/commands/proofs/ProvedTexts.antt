@@ -20,7 +20,7 @@ use Rattle.analysis.specs.declared.places.TextPlace.{TextPlace}
 use Rattle.analysis.specs.declared.planning.Planned.{Planned}
 use Rattle.analysis.specs.Claims.{AreTheirPlaces}
 use Rattle.analysis.specs.Plan.{IsPlan}
-use Rattle.point_rounds.specs.declared.table.PointTable.{PointTable}
+use Rattle.point_search.specs.declared.found.FoundTable.{FoundTable}
 use Rattle.point_reports.specs.declared.whole.PointReport.{PointReport}
 use Rattle.point_reports.specs.Claims.{AreAllMet}
 use Rattle.point_reports.specs.Proof.{proof_by_plan}
@@ -79,11 +79,11 @@ module _ {S : Type 0} (O : Asking S) (text : List ℕ) (program ruled : Program)
   places-are = are ∙ ap (λ (p : Program). map (text_place text) p.checks) under
 
   pub proof-made : (old new : S) (before after : Log) (result : Result PointReport WorkError) → before ≡ record { notes = []; answers = [] } → after.notes ≡ before.notes
-      → (table : PointTable) × Follows O old new before after result (proof_by_plan ruled places plan table)
+      → (found : FoundTable) × Follows O old new before after result (proof_by_plan ruled places plan found)
       → IfOk result (AreAllMet ruled) → (AreTheirPlaces ruled places → IfOk result (λ made. ReportCovers ruled made.report)) → IfOk result (λ made. PointsMeetRows made.report)
       → IfOk result (λ made. (answers : List Answer) × IsProvedBy O.allows text answers made)
   proof-made old new before after (Err error) begun kept told met covers points = tt
-  proof-made old new before after (Ok made) begun kept (table, follows) met covers points =
+  proof-made old new before after (Ok made) begun kept (found, follows) met covers points =
       let leads = follows.comes in
       let none = no-notes before after leads.notes begun kept leads.noted in (
         leads.answers,
@@ -91,11 +91,11 @@ module _ {S : Type 0} (O : Asking S) (text : List ℕ) (program ruled : Program)
           program = program;
           plan = plan;
           planned = record { accepted = accepted; is_plan = subst (λ (p : Program). IsPlan p plan) under is_plan };
-          table = table;
+          found = found;
           leads =
-              subst (λ notes. Path (IsGood O.allows) (proof_by_plan (with_rule 4 program) (places_of text program) plan table) notes leads.answers (Done made)) none
-              (subst (λ at. Path (IsGood O.allows) (proof_by_plan (with_rule 4 program) at plan table) leads.notes leads.answers (Done made)) places-are
-              (subst (λ (p : Program). Path (IsGood O.allows) (proof_by_plan p places plan table) leads.notes leads.answers (Done made)) under leads.path));
+              subst (λ notes. Path (IsGood O.allows) (proof_by_plan (with_rule 4 program) (places_of text program) plan found) notes leads.answers (Done made)) none
+              (subst (λ at. Path (IsGood O.allows) (proof_by_plan (with_rule 4 program) at plan found) leads.notes leads.answers (Done made)) places-are
+              (subst (λ (p : Program). Path (IsGood O.allows) (proof_by_plan p places plan found) leads.notes leads.answers (Done made)) under leads.path));
           met = all-met program 4 made (subst (λ (p : Program). AreAllMet p made) under met);
           covers = covers-anew 4 program made.report (subst (λ (p : Program). ReportCovers p made.report) under (covers their-places));
           points = points;

@@ -10,8 +10,8 @@ use Rattle.finder.specs.Found.{IsFound}
 use Rattle.report.specs.Claims.{PointsMeetRows, ReportCovers}
 use Rattle.report.specs.Points.{text_with_points}
 use Rattle.report.specs.Text.{proved_count}
-use Rattle.point_rounds.specs.declared.table.PointTable.{PointTable}
 use Rattle.analysis.specs.declared.planning.Planned.{Planned}
+use Rattle.point_search.specs.declared.found.FoundTable.{FoundTable}
 use Rattle.point_reports.specs.declared.whole.PointReport.{PointReport}
 use Rattle.point_reports.specs.Claims.{AreAllMet}
 use Rattle.point_reports.specs.Proof.{proof_by_plan}
@@ -26,17 +26,18 @@ use Rattle.commands.specs.declared.status.Status.TheVariants as ended
 use Rattle.commands.specs.Within.{OrRefused, Within}
 
 -- The text is accepted, and the report is what the analysis with points of its program comes to,
--- under the rule of phases, by some table of rows and under these answers, each of which passes, is
--- true and is one that may be given. It covers the program, its claims are met, those of the rows at
--- points with them, and each point that it tells makes the rows of its case true.
+-- under the rule of phases, by some table of rows that is found and under these answers, each of
+-- which passes, is true and is one that may be given. It covers the program, its claims are met,
+-- those of the rows at points with them, and each point that it tells makes the rows of its case
+-- true.
 pub record IsProvedBy (allows : Question → Answer → Type 0) (text : List ℕ)
     (answers : List Answer) (made : PointReport) : Type 0 where
   pub program : Program
   pub plan : List Planned
   pub planned : IsPlanned 4 text program plan
-  pub table : PointTable
+  pub found : FoundTable
   pub leads : Path (IsGood allows)
-      (proof_by_plan (with_rule 4 program) (places_of text program) plan table) [] answers
+      (proof_by_plan (with_rule 4 program) (places_of text program) plan found) [] answers
       (Done made)
   pub met : AreAllMet program made
   pub covers : ReportCovers program made.report

@@ -69,7 +69,7 @@ fn proof_reply(alloc: Global, made: &PointReport) -> Result<Reply, AllocError>
     ensures reply { IfOk result (λ reply. reply ≡ proof_reply made.now) }
     ensures status { IfOk result (λ reply. IsAnswer reply.status) }
 {
-    let text = print_with_points(alloc, &made.report, made.points.as_slice())?;
+    let text = print_with_points(alloc, &made.report, &made.points)?;
     let all_proved = unproved_assertions(&made.report) == 0;
     Ok(Reply {
         status: if all_proved {

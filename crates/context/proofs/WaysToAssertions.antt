@@ -75,7 +75,7 @@ begun-known place entry f at is e = record {
 pub record IsExtendable (place : AssertionPlace) (f : Transition) : Type 0 where
   pub more : f.to ≤ place.columns
   pub few : HasFew 64 f
-  pub narrow : place.columns ≤ 63
+  pub narrow : place.columns ≤ 1000
 
 pub extendable : (place : AssertionPlace) (entry : Option Transition) (f : Transition) → IsPlace place → IsEntryIf place.entry entry → entry ≡ Some f → IsExtendable place f
 extendable place entry f at is e =

@@ -1,13 +1,10 @@
-ghost use Rattle.std.specs.Prelude.{◌≡◌, ◌<◌, ◌≤◌, ◌+◌, ◌^◌, All, Ok, Some, length, map, slice_get, IfOk};
-ghost use Rattle.std.specs.List.{range_with_len};
+ghost use Rattle.std.specs.Prelude.{◌≡◌, ◌<◌, Ok, Some, length, slice_get, IfOk};
 ghost use Rattle.syntax_tree.specs.Term.{term_of};
 ghost use Rattle.syntax_tree.specs.WellFormed.{IsWellFormed};
 ghost use Rattle.syntax_tree.specs.declared.program.Proc.{Proc as Procedure};
 ghost use Rattle.execution.specs.Execution.{Fails};
 ghost use Rattle.flow_graph.specs.FlowGraph.{CheckPlace, graph_of};
 ghost use Rattle.flow_graph.specs.Plain.{plain};
-ghost use Rattle.linear_terms.specs.declared.col.Col.TheVariants.{Aux};
-ghost use Rattle.linear_terms.specs.Polynomial.{column_of};
 ghost use Rattle.transition_formula.specs.Transition.{AreSolvable};
 ghost use Rattle.posing.specs.Follows.{Asks};
 ghost use Rattle.posing.specs.Logs.{Adds, loss_notes};
@@ -20,8 +17,9 @@ ghost use Rattle.report.specs.declared.verdict.Verdict.TheVariants.{Proved};
 ghost use Rattle.report.specs.Claims.{IsRefuted};
 ghost use Rattle.context.specs.Claims.{EntryHolds, FitsVerdict, IsEntryIf};
 ghost use Rattle.context.specs.Ends.{HasFew, HoldsAfter, HoldsBegun, HoldsFailing, IsCondition, IsFromStart, IsPlace, NoneFails, NoneFailsAt};
-ghost use Rattle.context.specs.Verdicts.{entry_from_start, extended_formula, extended_case, failure_verdict_from, failing_of, losses_in_failing, place_of, reach_from, shown_columns_of, verdict_of};
+ghost use Rattle.context.specs.Verdicts.{entry_from_start, failure_verdict_from, failing_of, losses_in_failing, place_of, reach_from, shown_columns_of, verdict_of};
 
+use crate::extending::extended_formula;
 use crate::judging::verdict_on_cases;
 use crate::place::{AssertionPlace, place_of};
 use crate::stand::stand_of;
@@ -30,7 +28,6 @@ use farkas_check::Oracle;
 use flow_graph::{Graph, graph};
 use items::Items;
 use leaf_cases::falsity;
-use linear_terms::{Case, Col, Poly};
 use posing::{Log, WorkError};
 use proc_summary::Flow;
 use report::Verdict;
@@ -189,67 +186,6 @@ fn entry_from_start(
             Ok(made)
         }
         None => Ok(Formula::from_cases(0, place.columns, Items::new(alloc))),
-    }
-}
-
-/// The formula with as many posts as that, of which the further ones may be any numbers.
-fn extended_formula(alloc: Global, columns: u32, f: &Formula) -> Result<Formula, FormulaError>
-    requires more { f.now.to ≤ columns }
-    requires few { HasFew 64 f.now }
-    requires narrow { columns ≤ 63 }
-    ensures { IfOk result (λ g. g ≡ extended_formula columns f.now) }
-{
-    let more = columns - f.to();
-    let cases = extended_cases(alloc, more, f.cases())?;
-    Ok(Formula::from_cases(f.from(), columns, cases))
-}
-
-fn extended_cases(alloc: Global, more: u32, cases: &[Case]) -> Result<Items<Case>, FormulaError>
-    requires few { All (λ case. case.aux ≤ 64) cases.now }
-    requires narrow { more ≤ 63 }
-    ensures { IfOk result (λ made. made ≡ map (extended_case more) cases.now) }
-{
-    let mut made = Items::new(alloc);
-    for case in cases {
-        made.push(extended_case(alloc, more, case)?)?;
-    }
-    Ok(made)
-}
-
-/// The case with so many posts more, each a new auxiliary.
-fn extended_case(alloc: Global, more: u32, case: &Case) -> Result<Case, FormulaError>
-    requires { case.now.aux + more < 2 ^ 32 }
-    ensures { IfOk result (λ c. c ≡ extended_case more case.now) }
-{
-    let rows = case.rows.clone()?;
-    let mut post = case.post.clone()?;
-    post.append(auxiliaries(alloc, case.aux, more)?)?;
-    Ok(Case {
-        aux: case.aux + more,
-        rows,
-        post,
-    })
-}
-
-/// So many auxiliaries from a number on.
-fn auxiliaries(alloc: Global, first: u32, count: u32) -> Result<Items<Poly>, FormulaError>
-    requires { first + count < 2 ^ 32 }
-    ensures { IfOk result
-        (λ made. made ≡ map (λ n. column_of (Aux n)) (range_with_len first count)) }
-{
-    let mut made = Items::new(alloc);
-    for number in first..first + count {
-        made.push(auxiliary(alloc, number)?)?;
-    }
-    Ok(made)
-}
-
-fn auxiliary(alloc: Global, number: u32) -> Result<Poly, FormulaError>
-    ensures { IfOk result (λ p. p ≡ column_of (Aux number)) }
-{
-    match Poly::column(alloc, Col::Aux(number)) {
-        Ok(poly) => Ok(poly),
-        Err(_) => Err(FormulaError::Memory),
     }
 }
 

@@ -6,6 +6,7 @@ mod assertion;
 mod callings;
 mod edges;
 mod entry_formulas;
+mod extending;
 mod judging;
 mod laws;
 mod nodes;
@@ -15,6 +16,7 @@ mod stand;
 
 pub use assertion::{Assertion, graph_verdict, verdict};
 pub use entry_formulas::entries;
+pub use extending::{extended_case, extended_formula};
 pub use judging::verdict_on_cases;
 pub use laws::assertions_hold;
 pub use second_questions::with_products;

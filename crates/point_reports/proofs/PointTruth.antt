@@ -68,7 +68,3 @@ report-covers program before (Ok made) keeps covers = record {
   verdicts = keeps.ats ∙ covers.verdicts;
   fit = λ proc p block is at. covers.fit proc p block is (subst (λ blocks. slice_get blocks proc ≡ Some block) keeps.procs at);
 }
-
-pub if_ok-both : {A E : Type 0} (P Q R : A → Type 0) (r : Result A E) → ((x : A) → P x → Q x → R x) → IfOk r P → IfOk r Q → IfOk r R
-if_ok-both P Q R (Ok x) more p q = more x p q
-if_ok-both P Q R (Err e) more p q = tt

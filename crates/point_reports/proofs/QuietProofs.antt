@@ -8,7 +8,7 @@ use Rattle.posing.specs.Posing.{Posing, Done, ◌>>=◌}
 use Rattle.report.specs.declared.blocks.Judged.{Judged}
 use Rattle.report.specs.Text.{is_proved}
 use Rattle.point_rounds.specs.declared.round.PointRound.{PointRound}
-use Rattle.point_rounds.specs.declared.table.PointTable.{PointTable}
+use Rattle.point_search.specs.declared.found.FoundTable.{FoundTable}
 use Rattle.point_verdicts.specs.Exclusions.{exclusion_of}
 use Rattle.analysis.specs.declared.places.TextPlace.{TextPlace}
 use Rattle.analysis.specs.declared.planning.Planned.{Planned}
@@ -46,18 +46,18 @@ unfolding judgements_again with_judgement
 all_again-quiet program left judged =
     quiet-each _ [] (judgements_from 1 judged) (λ made one. quiet-bind (judgement_again program left one.0 one.1) _ (again-quiet program left one.1 one.0) (λ after. tt))
 
-points-quiet : (program : Program) (made : FoundReport) (table : PointTable) → IsQuiet (points_if_open program made table)
+points-quiet : (program : Program) (made : FoundReport) (found : FoundTable) → IsQuiet (points_if_open program made found)
 unfolding points_if_open with_points
-points-quiet program made table = by (list_all is_proved made.report.judged)
+points-quiet program made found = by (list_all is_proved made.report.judged)
   where
-    by : (b : Bool) → IsQuiet (if b then Done (without_points made) else with_points program made table)
+    by : (b : Bool) → IsQuiet (if b then Done (without_points made) else with_points program made found)
     by true = tt
     by false =
-        quiet-bind (apart (rounds_on program made table)) _ (quiet-apart_from [] (rounds_on program made table))
-        (λ left. quiet-bind (judgements_again program left.0 made.report.judged) _ (all_again-quiet program left.0 made.report.judged) (λ judged. tt))
+        quiet-bind (apart (rounds_on program made found)) _ (quiet-apart_from [] (rounds_on program made found))
+        (λ left. quiet-bind (judgements_again program left.0.round made.report.judged) _ (all_again-quiet program left.0.round made.report.judged) (λ judged. tt))
 
-pub proof-quiet : (program : Program) (places : List TextPlace) (plan : List Planned) (table : PointTable) → IsQuiet (proof_by_plan program places plan table)
+pub proof-quiet : (program : Program) (places : List TextPlace) (plan : List Planned) (found : FoundTable) → IsQuiet (proof_by_plan program places plan found)
 unfolding proof_by_plan
-proof-quiet program places plan table =
+proof-quiet program places plan found =
     quiet-bind (findings_by_plan program plan) _ (found-quiet program plan)
-    (λ found. quiet-bind (found_report program places found) _ (found_report-quiet program places found) (λ made. points-quiet program made table))
+    (λ all. quiet-bind (found_report program places all) _ (found_report-quiet program places all) (λ made. points-quiet program made found))

@@ -52,4 +52,4 @@ PointRowsAreMet program points = (n : ℕ) (told : PointRows) → slice_get poin
 -- the claims of the report are met, and those of the rows at points
 pub record AreAllMet (program : Program) (made : PointReport) : Type 0 where
   pub claims : ClaimsAreMet program made.report
-  pub points : PointRowsAreMet program made.points
+  pub points : PointRowsAreMet program made.points.rows

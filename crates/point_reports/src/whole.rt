@@ -6,34 +6,34 @@ ghost use Rattle.report.specs.Claims.{PointsMeetRows, ReportCovers};
 ghost use Rattle.report.specs.Text.{is_proved};
 ghost use Rattle.analysis.specs.Claims.{AreTheirPlaces};
 ghost use Rattle.analysis.specs.Plan.{IsPlan};
-ghost use Rattle.point_rounds.specs.declared.table.PointTable.{PointTable as Table};
+ghost use Rattle.point_search.specs.declared.found.FoundTable.{FoundTable as Found};
 ghost use Rattle.point_reports.specs.Claims.{AreAllMet};
 ghost use Rattle.point_reports.specs.Parts.{IsFoundProof, KeepsReport};
 ghost use Rattle.point_reports.specs.Proof.{points_if_open, proof_by_plan, with_points, without_points};
 
 use crate::again::{JudgedRound, is_proved, judgements_again};
 use crate::blocks::rows_of_table;
-use crate::rounds::{PointGround, rounds_apart};
+use crate::rounds::{PointGround, RoundsTold, rounds_apart};
 use analysis::{FoundReport, Planned, TextPlace, findings_by_plan, found_report, standing_of};
 use farkas_check::Oracle;
 use items::Items;
 use point_rounds::all_heads;
 use posing::{Log, WorkError};
-use report::{PointRows, Report};
+use report::{PointsTold, Report};
 use std::alloc::Global;
 use syntax_tree::Program;
 
-/// A report, and the rows that hold at points of its program and where its procedures return; none
-/// where every assertion is proved without them.
+/// A report, and what is told of points: the rows that hold at points of its program and where its
+/// procedures return, none where every assertion is proved without them.
 #[derive(Drop)]
 pub struct PointReport {
     pub report: Report,
-    pub points: Items<PointRows>,
+    pub points: PointsTold,
 }
 
 /// The report of a program by its plan, whose assertions stand at these places of its text, with what
 /// holds at points. The log gains the answers that were taken, in the order of their questions, and no notes:
-/// these stand in the report. What is looked for at points is believed of nothing: any table of rows
+/// these stand in the report. What is found for points is believed of nothing: any table of rows
 /// is tested by rounds of questions, and what they leave is told.
 ///
 /// # Errors
@@ -50,8 +50,8 @@ pub fn prove<O: Oracle>(
 ) -> Result<PointReport, WorkError>
     requires formed { IsWellFormed program.now }
     requires plan { IsPlan program.now plan.now }
-    ensures follows { (table : Table) × Asks O.asking oracle log result
-        (proof_by_plan program.now places.now plan.now table) }
+    ensures follows { (found : Found) × Asks O.asking oracle log result
+        (proof_by_plan program.now places.now plan.now found) }
     ensures kept { log.new.notes ≡ log.old.notes }
     ensures met { IfOk result (AreAllMet program.now) }
     ensures covers { AreTheirPlaces program.now places.now
@@ -73,8 +73,8 @@ fn points_if_open<O: Oracle>(
 ) -> Result<PointReport, WorkError>
     requires formed { IsWellFormed program.now }
     requires made { IsFoundProof program.now made }
-    ensures follows { (table : Table) × Asks O.asking oracle log result
-        (points_if_open program.now made table) }
+    ensures follows { (found : Found) × Asks O.asking oracle log result
+        (points_if_open program.now made found) }
     ensures keeps { IfOk result (KeepsReport made) }
     ensures met { IfOk result (AreAllMet program.now) }
     ensures points { IfOk result (λ made. PointsMeetRows made.report) }
@@ -96,7 +96,10 @@ fn without_points(alloc: Global, made: FoundReport) -> PointReport
 {
     PointReport {
         report: made.report,
-        points: Items::new(alloc),
+        points: PointsTold {
+            is_cut: false,
+            rows: Items::new(alloc),
+        },
     }
 }
 
@@ -110,8 +113,8 @@ fn with_points<O: Oracle>(
 ) -> Result<PointReport, WorkError>
     requires formed { IsWellFormed program.now }
     requires made { IsFoundProof program.now made }
-    ensures follows { (table : Table) × Asks O.asking oracle log result
-        (with_points program.now made table) }
+    ensures follows { (found : Found) × Asks O.asking oracle log result
+        (with_points program.now made found) }
     ensures keeps { IfOk result (KeepsReport made) }
     ensures met { IfOk result (AreAllMet program.now) }
     ensures points { IfOk result (λ made. PointsMeetRows made.report) }
@@ -124,7 +127,8 @@ fn with_points<O: Oracle>(
         heads: heads.as_slice(),
         made: &made,
     };
-    let (round, own) = rounds_apart(alloc, ground, oracle, log)?;
+    let (told, own) = rounds_apart(alloc, ground, oracle, log)?;
+    let RoundsTold { round, is_cut } = told;
     let left = JudgedRound {
         program,
         standing: &standing,
@@ -138,13 +142,13 @@ fn with_points<O: Oracle>(
     } = made.report;
     let judged = judgements_again(alloc, left, judged.as_slice(), oracle, log)?;
     notes.append(own)?;
-    let points = rows_of_table(alloc, program, heads.as_slice(), &round.table)?;
+    let rows = rows_of_table(alloc, program, heads.as_slice(), &round.table)?;
     Ok(PointReport {
         report: Report {
             procs,
             notes,
             judged,
         },
-        points,
+        points: PointsTold { is_cut, rows },
     })
 }

@@ -1,5 +1,5 @@
 use crate::places::PlaceNumbers;
-use items::Items;
+use crate::steps::OwnSteps;
 use linear_terms::{Case, Poly};
 use point_rounds::{RoundSource, RowPlace, StepFrom};
 use point_steps::Target;
@@ -15,8 +15,22 @@ pub(crate) struct PointArrival<'a> {
     pub(crate) columns: usize,
 }
 
+/// The cases of the steps of each procedure that lead to places, in the order of the steps.
+pub(crate) fn all_arrivals<'a>(
+    alloc: Global,
+    source: RoundSource,
+    numbers: PlaceNumbers,
+    steps: &'a [OwnSteps],
+) -> Result<Vec<Vec<PointArrival<'a>>>, AllocError> {
+    let mut all = Vec::new(alloc);
+    for own in steps {
+        all.push(arrivals(alloc, source, numbers, own.made.as_slice())?)?;
+    }
+    Ok(all)
+}
+
 /// The cases of steps that lead to places, in the order of the steps.
-pub(crate) fn arrivals<'a>(
+fn arrivals<'a>(
     alloc: Global,
     source: RoundSource,
     numbers: PlaceNumbers,

@@ -1,5 +1,6 @@
 use crate::arrivals::{PointArrival, posts_at_end};
 use crate::case_search::{CaseSearch, WholeTop, copies_of, search_over};
+use crate::counts::SearchLeft;
 use items::Items;
 use linear_terms::{Kind, Poly, Row, TermError, difference, subst};
 use point_candidates::offer;
@@ -19,16 +20,16 @@ struct DirectionTop {
 pub(crate) struct BoundPlace<'a> {
     pub(crate) number: usize,
     pub(crate) apart: bool,
-    pub(crate) arrivals: &'a [PointArrival<'a>],
+    pub(crate) arrivals: &'a [Vec<PointArrival<'a>>],
 }
 
 /// Adds the rows `d - c <= 0`, where `c` is how great a direction gets over the arrivals at a place,
-/// as long as questions are left.
+/// as long as the search may seek them.
 pub(crate) fn add_bounds(
     alloc: Global,
     place: BoundPlace,
     directions: &[Poly],
-    left: &mut usize,
+    left: &mut SearchLeft,
     rows: &mut Items<Row>,
 ) -> Result<(), AllocError> {
     let tops = direction_tops(alloc, place, directions, left)?;
@@ -86,12 +87,14 @@ fn direction_tops(
     alloc: Global,
     place: BoundPlace,
     directions: &[Poly],
-    left: &mut usize,
+    left: &mut SearchLeft,
 ) -> Result<Vec<DirectionTop>, AllocError> {
     let mut tops = no_tops(alloc, directions.len())?;
-    for arrival in place.arrivals {
-        if arrival.to == place.number {
-            raise_tops(alloc, *arrival, directions, left, &mut tops)?;
+    for own in place.arrivals {
+        for arrival in own.iter() {
+            if arrival.to == place.number {
+                raise_tops(alloc, *arrival, directions, left, &mut tops)?;
+            }
         }
     }
     Ok(tops)
@@ -108,62 +111,64 @@ fn no_tops(alloc: Global, count: usize) -> Result<Vec<DirectionTop>, AllocError>
     Ok(tops)
 }
 
-/// Raises what directions get to by one arrival.
+/// Raises what directions get to by one arrival: without end, where no bounds may be sought.
 fn raise_tops(
     alloc: Global,
     arrival: PointArrival,
     directions: &[Poly],
-    left: &mut usize,
+    left: &mut SearchLeft,
     tops: &mut [DirectionTop],
 ) -> Result<(), AllocError> {
+    let own = arrival.from == arrival.to;
+    if !left.takes_bounds(directions.len()) {
+        for top in tops.iter_mut() {
+            *top = raised(*top, own, WholeTop::Endless);
+        }
+        return Ok(());
+    }
     let rows = copies_of(alloc, arrival.case.rows.as_slice())?;
     let mut search = search_over(alloc, rows)?;
     let posts = posts_at_end(arrival);
-    let own = arrival.from == arrival.to;
     for (place, d) in directions.iter().enumerate() {
-        if place < tops.len() {
-            tops[place] = next_top(alloc, tops[place], own, posts, d, *left, &mut search)?;
+        if place < tops.len() && !is_endless(tops[place], own) {
+            let top = top_at(alloc, posts, d, &mut search)?;
+            tops[place] = raised(tops[place], own, top);
         }
     }
-    *left = left.saturating_sub(search.asked);
     Ok(())
 }
 
-fn next_top(
-    alloc: Global,
-    top: DirectionTop,
-    own: bool,
-    posts: &[Poly],
-    d: &Poly,
-    left: usize,
-    search: &mut CaseSearch,
-) -> Result<DirectionTop, AllocError> {
+fn is_endless(top: DirectionTop, own: bool) -> bool {
     if own {
-        Ok(DirectionTop {
-            others: top.others,
-            own: raised_top(alloc, top.own, posts, d, left, search)?,
-        })
+        top.own == WholeTop::Endless
     } else {
-        Ok(DirectionTop {
-            others: raised_top(alloc, top.others, posts, d, left, search)?,
-            own: top.own,
-        })
+        top.others == WholeTop::Endless
     }
 }
 
-fn raised_top(
+fn raised(top: DirectionTop, own: bool, by: WholeTop) -> DirectionTop {
+    if own {
+        DirectionTop {
+            others: top.others,
+            own: higher(top.own, by),
+        }
+    } else {
+        DirectionTop {
+            others: higher(top.others, by),
+            own: top.own,
+        }
+    }
+}
+
+/// How great a direction gets over the points of a search.
+fn top_at(
     alloc: Global,
-    top: WholeTop,
     posts: &[Poly],
     d: &Poly,
-    left: usize,
     search: &mut CaseSearch,
 ) -> Result<WholeTop, AllocError> {
-    if top == WholeTop::Endless || left <= search.asked {
-        return Ok(WholeTop::Endless);
-    }
     match put_in(alloc, posts, d) {
-        Ok(objective) => Ok(higher(top, search.top(alloc, objective)?)),
+        Ok(objective) => search.top(alloc, objective),
         Err(TermError::Memory) => Err(AllocError),
         Err(_lost) => Ok(WholeTop::Endless),
     }

@@ -20,26 +20,31 @@ pub(crate) enum WholeTop {
     Endless,
 }
 
-/// The rows of a case, and what was asked of it last: a search begins where the last one ended.
+/// The rows of a case and those given at the point where its step begins, and what was asked of them
+/// last: a search begins where the last one ended.
 #[derive(Drop)]
 pub(crate) struct CaseSearch {
     finder: Finder,
     rows: Items<Row>,
-    is_empty: bool,
-    /// How many questions were asked.
-    pub(crate) asked: usize,
+    /// How many rows the case has. Those that were given stand behind them.
+    own: usize,
+    /// The numbers of the rows that were given.
+    given: Items<u32>,
+    /// Where no point makes the rows true, the numbers of those that were given which show it.
+    empty_by: Option<Items<u32>>,
+}
+
+/// The rows that are left at a point, and their numbers.
+#[derive(Clone, Copy)]
+pub(crate) struct GivenRows<'a> {
+    pub(crate) rows: &'a [Row],
+    pub(crate) numbers: &'a [u32],
 }
 
 /// The search over rows.
 pub(crate) fn search_over(alloc: Global, rows: Items<Row>) -> Result<CaseSearch, AllocError> {
-    let mut finder = Finder::new(alloc);
-    let (rows, is_empty) = refuted_rows(alloc, rows, &mut finder)?;
-    Ok(CaseSearch {
-        finder,
-        rows,
-        is_empty,
-        asked: 1,
-    })
+    let own = rows.len();
+    search_by(alloc, rows, own, Items::new(alloc))
 }
 
 /// The search over a case's rows and those at the point where its step begins.
@@ -47,35 +52,124 @@ pub(crate) fn search_under(
     alloc: Global,
     posts: &[Poly],
     own: &[Row],
-    given: &[Row],
+    given: GivenRows,
 ) -> Result<CaseSearch, AllocError> {
-    match rows_under(alloc, posts, own, given)? {
-        Some(rows) => search_over(alloc, rows),
-        None => Ok(no_points(alloc)),
+    let mut rows = copies_of(alloc, own)?;
+    let mut numbers = Items::new(alloc);
+    for (place, number) in given.numbers.iter().enumerate() {
+        if place < given.rows.len() {
+            let one = &given.rows[place..place + 1];
+            if !add_given(alloc, posts, one, *number, &mut rows, &mut numbers)? {
+                return no_points(alloc, *number);
+            }
+        }
     }
+    search_by(alloc, rows, own.len(), numbers)
 }
 
-/// The search over no points.
-fn no_points(alloc: Global) -> CaseSearch {
-    CaseSearch {
-        finder: Finder::new(alloc),
-        rows: Items::new(alloc),
-        is_empty: true,
-        asked: 0,
-    }
-}
-
-fn rows_under(
+/// Adds what a given row says where its columns are the posts; whether it can be true.
+fn add_given(
     alloc: Global,
     posts: &[Poly],
-    own: &[Row],
-    given: &[Row],
-) -> Result<Option<Items<Row>>, AllocError> {
-    if are_over(posts.len(), given) {
-        given_rows(alloc, posts, own, given)
-    } else {
-        Ok(Some(copies_of(alloc, own)?))
+    one: &[Row],
+    number: u32,
+    rows: &mut Items<Row>,
+    numbers: &mut Items<u32>,
+) -> Result<bool, AllocError> {
+    match read_rows(alloc, posts, one)? {
+        Some(read) => {
+            for row in read {
+                if !is_listed(rows.as_slice(), &row) {
+                    rows.push(row)?;
+                    numbers.push(number)?;
+                }
+            }
+            Ok(true)
+        }
+        None => Ok(false),
     }
+}
+
+/// What rows say where their columns are the posts.
+fn read_rows(
+    alloc: Global,
+    posts: &[Poly],
+    rows: &[Row],
+) -> Result<Option<Items<Row>>, AllocError> {
+    if are_over(posts.len(), rows) {
+        given_rows(alloc, posts, &[], rows)
+    } else {
+        Ok(Some(Items::new(alloc)))
+    }
+}
+
+/// Whether the row is among others.
+pub(crate) fn is_listed(rows: &[Row], row: &Row) -> bool {
+    rows.iter().any(|known| known == row)
+}
+
+/// The search over no points, where the given row of this number is false.
+fn no_points(alloc: Global, number: u32) -> Result<CaseSearch, AllocError> {
+    let mut by = Items::new(alloc);
+    by.push(number)?;
+    Ok(CaseSearch {
+        finder: Finder::new(alloc),
+        rows: Items::new(alloc),
+        own: 0,
+        given: Items::new(alloc),
+        empty_by: Some(by),
+    })
+}
+
+/// The search over rows, of which the last ones were given.
+fn search_by(
+    alloc: Global,
+    rows: Items<Row>,
+    own: usize,
+    given: Items<u32>,
+) -> Result<CaseSearch, AllocError> {
+    let mut finder = Finder::new(alloc);
+    let question = Question::Infeasible(rows);
+    let answer = answer_to(alloc, &question, &mut finder)?;
+    let empty_by = match &answer {
+        Answer::Yes(by) => Some(numbers_by(alloc, own, given.as_slice(), by.as_slice())?),
+        _ => None,
+    };
+    Ok(CaseSearch {
+        finder,
+        rows: rows_of(alloc, question),
+        own,
+        given,
+        empty_by,
+    })
+}
+
+fn answer_to(
+    alloc: Global,
+    question: &Question,
+    finder: &mut Finder,
+) -> Result<Answer, AllocError> {
+    match finder.ask(alloc, question) {
+        Ok(answer) => Ok(answer),
+        Err(_memory) => Err(AllocError),
+    }
+}
+
+/// The numbers of the given rows whose multiplier is not 0.
+fn numbers_by(
+    alloc: Global,
+    own: usize,
+    given: &[u32],
+    by: &[i128],
+) -> Result<Items<u32>, AllocError> {
+    let mut numbers = Items::new(alloc);
+    for (place, number) in given.iter().enumerate() {
+        let at = own.saturating_add(place);
+        if at < by.len() && by[at] != 0 {
+            numbers.push(*number)?;
+        }
+    }
+    Ok(numbers)
 }
 
 /// A copy of rows.
@@ -100,24 +194,6 @@ fn is_over(columns: usize, row: &Row) -> bool
     row.poly.is_covered(columns, 0)
 }
 
-/// Whether no point makes the rows true, which are handed back.
-fn refuted_rows(
-    alloc: Global,
-    rows: Items<Row>,
-    finder: &mut Finder,
-) -> Result<(Items<Row>, bool), AllocError> {
-    let question = Question::Infeasible(rows);
-    let refuted = is_refuted(alloc, &question, finder)?;
-    Ok((rows_of(alloc, question), refuted))
-}
-
-fn is_refuted(alloc: Global, question: &Question, finder: &mut Finder) -> Result<bool, AllocError> {
-    match finder.ask(alloc, question) {
-        Ok(answer) => Ok(matches!(answer, Answer::Yes(_))),
-        Err(_memory) => Err(AllocError),
-    }
-}
-
 /// The rows of a question.
 fn rows_of(alloc: Global, question: Question) -> Items<Row> {
     match question {
@@ -126,14 +202,7 @@ fn rows_of(alloc: Global, question: Question) -> Items<Row> {
     }
 }
 
-/// How great the objective gets.
-fn top_of(alloc: Global, question: &Question, finder: &mut Finder) -> Result<WholeTop, AllocError> {
-    match finder.ask(alloc, question) {
-        Ok(answer) => Ok(top_in(&answer)),
-        Err(_memory) => Err(AllocError),
-    }
-}
-
+/// How great an objective gets by an answer.
 fn top_in(answer: &Answer) -> WholeTop {
     match answer {
         Answer::Bound { at, .. } => WholeTop::At(*at),
@@ -167,15 +236,20 @@ fn rows_of_first(alloc: Global, goals: Items<Goal>) -> Items<Row> {
 impl CaseSearch {
     /// How great an objective gets.
     pub(crate) fn top(&mut self, alloc: Global, objective: Poly) -> Result<WholeTop, AllocError> {
-        if self.is_empty {
+        if self.empty_by.is_some() {
             return Ok(WholeTop::Nowhere);
         }
-        self.asked = self.asked.saturating_add(1);
+        let answer = self.answer(alloc, objective)?;
+        Ok(top_in(&answer))
+    }
+
+    /// The answer about how great an objective gets.
+    fn answer(&mut self, alloc: Global, objective: Poly) -> Result<Answer, AllocError> {
         let rows = mem::replace(&mut self.rows, Items::new(alloc));
         let question = question_of(alloc, rows, objective)?;
-        let top = top_of(alloc, &question, &mut self.finder)?;
+        let answer = answer_to(alloc, &question, &mut self.finder)?;
         self.rows = goal_rows(alloc, question);
-        Ok(top)
+        Ok(answer)
     }
 
     /// Whether the row is true at all points, where its columns are the posts.
@@ -185,39 +259,73 @@ impl CaseSearch {
         posts: &[Poly],
         row: &Row,
     ) -> Result<bool, AllocError> {
+        Ok(self.shown_by(alloc, posts, row)?.is_some())
+    }
+
+    /// The numbers of given rows by which the row is true at all points, where its columns are the
+    /// posts; none where it is not shown.
+    pub(crate) fn shown_by(
+        &mut self,
+        alloc: Global,
+        posts: &[Poly],
+        row: &Row,
+    ) -> Result<Option<Items<u32>>, AllocError> {
         match contraries_at(alloc, posts, row)? {
-            Some(rows) => self.refutes_all(alloc, rows),
-            None => Ok(false),
+            Some(rows) => self.all_refuted_by(alloc, rows),
+            None => Ok(None),
         }
     }
 
-    fn refutes_all(&mut self, alloc: Global, rows: Items<Row>) -> Result<bool, AllocError> {
+    fn all_refuted_by(
+        &mut self,
+        alloc: Global,
+        rows: Items<Row>,
+    ) -> Result<Option<Items<u32>>, AllocError> {
+        let mut all = Items::new(alloc);
         for row in rows {
-            if !self.refutes(alloc, row)? {
-                return Ok(false);
+            match self.refuted_by(alloc, row)? {
+                Some(by) => all.append(by)?,
+                None => return Ok(None),
             }
         }
-        Ok(true)
+        Ok(Some(all))
     }
 
-    /// Whether the row, an inequality, is true at no point.
-    fn refutes(&mut self, alloc: Global, row: Row) -> Result<bool, AllocError> {
+    /// By which given rows the row, an inequality, is true at no point.
+    fn refuted_by(&mut self, alloc: Global, row: Row) -> Result<Option<Items<u32>>, AllocError> {
         match scale(alloc, &row.poly, -1) {
-            Ok(objective) => {
-                let top = self.top(alloc, objective)?;
-                Ok(is_negative(top))
-            }
+            Ok(objective) => self.negative_by(alloc, objective),
             Err(TermError::Memory) => Err(AllocError),
-            Err(_lost) => Ok(false),
+            Err(_lost) => Ok(None),
         }
     }
-}
 
-fn is_negative(top: WholeTop) -> bool {
-    match top {
-        WholeTop::Nowhere => true,
-        WholeTop::At(at) => at < 0,
-        WholeTop::Endless => false,
+    /// By which given rows the objective is negative at all points.
+    fn negative_by(
+        &mut self,
+        alloc: Global,
+        objective: Poly,
+    ) -> Result<Option<Items<u32>>, AllocError> {
+        if let Some(by) = &self.empty_by {
+            return Ok(Some(by.clone()?));
+        }
+        let answer = self.answer(alloc, objective)?;
+        self.numbers_in(alloc, &answer)
+    }
+
+    /// By which given rows a bound below 0 is shown; none where the answer is none.
+    fn numbers_in(&self, alloc: Global, answer: &Answer) -> Result<Option<Items<u32>>, AllocError> {
+        match answer {
+            Answer::Bound { at, certs, .. } => match certs.as_slice().first() {
+                Some(cert) if *at < 0 => {
+                    let given = self.given.as_slice();
+                    let by = numbers_by(alloc, self.own, given, cert.by.as_slice())?;
+                    Ok(Some(by))
+                }
+                _ => Ok(None),
+            },
+            _ => Ok(None),
+        }
     }
 }
 

@@ -1,36 +1,59 @@
 use crate::arrivals::{PointArrival, posts_at_end};
-use crate::case_search::{CaseSearch, search_under};
-use crate::places::{RowsLeft, drops_at, rows_left, taken_rows};
+use crate::case_search::{CaseSearch, GivenRows, search_under};
+use crate::places::{RowsLeft, drops_at, numbers_left, put_left, rows_left, taken_rows};
 use items::Items;
 use linear_terms::{Poly, Row};
 use std::alloc::{AllocError, Global};
 
-/// Drops rows until each that is left is kept by the arrivals, where the rows at the places from
-/// which they lead are given. An arrival is asked anew where rows were dropped there. Where no
-/// questions are left, an arrival that would be asked keeps no row.
-pub(crate) fn drop_rows(
-    alloc: Global,
-    arrivals: &[PointArrival],
-    places: &mut [RowsLeft],
-    left: &mut usize,
-) -> Result<(), AllocError> {
-    let mut seen = unseen(alloc, arrivals.len())?;
-    let most = count_rows(places).saturating_add(1);
-    for _pass in 0..most {
-        if !drop_once(alloc, arrivals, places, &mut seen, left)? {
-            return Ok(());
-        }
-    }
-    Ok(())
+/// What is known of a case of a step: how often rows had been dropped where it begins when it was
+/// asked last, and which rows it keeps.
+#[derive(Drop)]
+pub(crate) struct CaseSeen {
+    drops: Option<usize>,
+    kept: Vec<KeptRow>,
 }
 
-/// For each arrival how often rows had been dropped where it leads from when it was asked last.
-fn unseen(alloc: Global, count: usize) -> Result<Vec<Option<usize>>, AllocError> {
+/// The number of a row that a case keeps, and those of the rows at its begin that show it.
+#[derive(Drop)]
+struct KeptRow {
+    number: u32,
+    by: Items<u32>,
+}
+
+/// Nothing is known of so many cases.
+pub(crate) fn unseen(alloc: Global, count: usize) -> Result<Vec<CaseSeen>, AllocError> {
     let mut seen = Vec::new(alloc);
-    for _arrival in 0..count {
-        seen.push(None)?;
+    for _case in 0..count {
+        seen.push(CaseSeen {
+            drops: None,
+            kept: Vec::new(alloc),
+        })?;
     }
     Ok(seen)
+}
+
+/// Drops rows until each that is left is kept by all cases of steps, where the rows at the places
+/// from which they lead are given. A case is asked anew where rows were dropped there, and then only
+/// about the rows that these had shown. It judges all rows at its end: where `left` tells of fewer
+/// judgements, it ends, and tells so.
+pub(crate) fn drop_rows(
+    alloc: Global,
+    arrivals: &[Vec<PointArrival>],
+    seen: &mut [Vec<CaseSeen>],
+    places: &mut [RowsLeft],
+    left: &mut usize,
+) -> Result<bool, AllocError> {
+    let most = count_rows(places).saturating_add(1);
+    for _pass in 0..most {
+        let before = count_rows(places);
+        if !drop_once(alloc, arrivals, seen, places, left)? {
+            return Ok(false);
+        }
+        if count_rows(places) == before {
+            return Ok(true);
+        }
+    }
+    Ok(true)
 }
 
 /// How many rows there are. Each pass but the last drops one.
@@ -42,25 +65,46 @@ fn count_rows(places: &[RowsLeft]) -> usize {
     count
 }
 
-/// Asks each arrival that is to be asked, and tells whether rows were dropped.
+/// Asks each case that is to be asked, and tells whether there were judgements enough.
 fn drop_once(
     alloc: Global,
-    arrivals: &[PointArrival],
+    arrivals: &[Vec<PointArrival>],
+    seen: &mut [Vec<CaseSeen>],
     places: &mut [RowsLeft],
-    seen: &mut [Option<usize>],
     left: &mut usize,
 ) -> Result<bool, AllocError> {
-    let mut dropped = false;
-    for (number, arrival) in arrivals.iter().enumerate() {
-        if number < seen.len() && is_stale(places, *arrival, seen[number]) {
-            seen[number] = Some(drops_at(places, arrival.from));
-            dropped |= drop_at(alloc, *arrival, places, left)?;
+    for (proc, own) in arrivals.iter().enumerate() {
+        if proc < seen.len() {
+            if !drop_in(alloc, own, &mut seen[proc], places, left)? {
+                return Ok(false);
+            }
         }
     }
-    Ok(dropped)
+    Ok(true)
 }
 
-/// Whether there are rows to be judged, under others than when the arrival was asked last.
+/// The same for the cases of a procedure's steps.
+fn drop_in(
+    alloc: Global,
+    arrivals: &[PointArrival],
+    seen: &mut [CaseSeen],
+    places: &mut [RowsLeft],
+    left: &mut usize,
+) -> Result<bool, AllocError> {
+    for (number, arrival) in arrivals.iter().enumerate() {
+        if number < seen.len() && is_stale(places, *arrival, seen[number].drops) {
+            let count = rows_left(places, arrival.to).len();
+            if *left < count {
+                return Ok(false);
+            }
+            *left = left.saturating_sub(count);
+            drop_at(alloc, *arrival, &mut seen[number], places)?;
+        }
+    }
+    Ok(true)
+}
+
+/// Whether there are rows to be judged, under others than when the case was asked last.
 fn is_stale(places: &[RowsLeft], arrival: PointArrival, seen: Option<usize>) -> bool {
     match seen {
         Some(drops) => {
@@ -70,80 +114,108 @@ fn is_stale(places: &[RowsLeft], arrival: PointArrival, seen: Option<usize>) -> 
     }
 }
 
-/// Drops the rows that an arrival does not keep, and tells whether there were some.
+/// Drops the rows that a case does not keep.
 fn drop_at(
     alloc: Global,
     arrival: PointArrival,
+    seen: &mut CaseSeen,
     places: &mut [RowsLeft],
-    left: &mut usize,
-) -> Result<bool, AllocError> {
-    let given = rows_left(places, arrival.from);
-    let mut search = search_from(alloc, arrival, given, *left)?;
+) -> Result<(), AllocError> {
+    seen.drops = Some(drops_at(places, arrival.from));
+    let known = rows_known(alloc, seen, arrival, places)?;
+    if known.iter().all(|is_known| *is_known) {
+        return Ok(());
+    }
+    let mut search = search_from(alloc, arrival, places)?;
     let rows = taken_rows(alloc, places, arrival.to);
-    let count = rows.len();
-    let kept = rows_kept(alloc, arrival, rows, &mut search)?;
-    *left = left.saturating_sub(question_count(&search));
-    let dropped = kept.len() < count;
-    put_left(places, arrival.to, kept, dropped);
-    Ok(dropped)
+    let kept = rows_kept(alloc, arrival, rows, &known, &mut search, seen)?;
+    put_left(places, arrival.to, kept);
+    Ok(())
 }
 
-/// The search over an arrival's points, where rows are given; none where no questions are left.
+/// Which of the rows at its end a case is known to keep, since all rows that show it are left.
+fn rows_known(
+    alloc: Global,
+    seen: &CaseSeen,
+    arrival: PointArrival,
+    places: &[RowsLeft],
+) -> Result<Vec<bool>, AllocError> {
+    let given = numbers_left(places, arrival.from);
+    let mut known = Vec::new(alloc);
+    for number in numbers_left(places, arrival.to) {
+        known.push(is_known(&seen.kept, *number, given))?;
+    }
+    Ok(known)
+}
+
+fn is_known(kept: &[KeptRow], number: u32, given: &[u32]) -> bool {
+    kept.iter().any(|row| row.number == number && are_left(row.by.as_slice(), given))
+}
+
+/// Whether the numbers are among those of the rows that are left.
+fn are_left(numbers: &[u32], given: &[u32]) -> bool {
+    numbers
+        .iter()
+        .all(|number| given.binary_search(number).is_ok())
+}
+
+/// The search over a case's points, where the rows at its begin are given.
 fn search_from(
     alloc: Global,
     arrival: PointArrival,
-    given: &[Row],
-    left: usize,
-) -> Result<Option<CaseSearch>, AllocError> {
-    if left == 0 {
-        return Ok(None);
-    }
+    places: &[RowsLeft],
+) -> Result<CaseSearch, AllocError> {
+    let given = GivenRows {
+        rows: rows_left(places, arrival.from),
+        numbers: numbers_left(places, arrival.from),
+    };
     let case = arrival.case;
-    let search = search_under(alloc, case.post.as_slice(), case.rows.as_slice(), given)?;
-    Ok(Some(search))
+    search_under(alloc, case.post.as_slice(), case.rows.as_slice(), given)
 }
 
-fn question_count(search: &Option<CaseSearch>) -> usize {
-    match search {
-        Some(search) => search.asked,
-        None => 0,
-    }
-}
-
-/// Those of the rows that an arrival keeps; none without a search.
+/// Those of the rows that a case is known to keep, or that a search shows.
 fn rows_kept(
     alloc: Global,
     arrival: PointArrival,
-    rows: Items<Row>,
-    search: &mut Option<CaseSearch>,
-) -> Result<Items<Row>, AllocError> {
-    match search {
-        Some(search) => rows_shown(alloc, posts_at_end(arrival), rows, search),
-        None => Ok(Items::new(alloc)),
-    }
-}
-
-/// Those of the rows that are true at all points of a search.
-fn rows_shown(
-    alloc: Global,
-    posts: &[Poly],
-    rows: Items<Row>,
+    rows: RowsLeft,
+    known: &[bool],
     search: &mut CaseSearch,
-) -> Result<Items<Row>, AllocError> {
-    let mut kept = Items::new(alloc);
-    for row in rows {
-        if search.shows(alloc, posts, &row)? {
-            kept.push(row)?;
+    seen: &mut CaseSeen,
+) -> Result<RowsLeft, AllocError> {
+    let count = rows.rows.len();
+    let mut kept = RowsLeft::none(alloc, rows.drops);
+    let posts = posts_at_end(arrival);
+    let mut place: usize = 0;
+    for row in rows.rows {
+        if place < known.len() && place < rows.numbers.len() {
+            let number = rows.numbers[place];
+            if known[place] || is_shown(alloc, posts, &row, number, search, seen)? {
+                kept.rows.push(row)?;
+                kept.numbers.push(number)?;
+            }
         }
+        place = place.saturating_add(1);
+    }
+    if kept.rows.len() < count {
+        kept.drops = kept.drops.saturating_add(1);
     }
     Ok(kept)
 }
 
-/// Puts back the rows that are left at a place.
-fn put_left(places: &mut [RowsLeft], number: usize, rows: Items<Row>, dropped: bool) {
-    if number < places.len() {
-        let more = if dropped { 1 } else { 0 };
-        places[number].rows = rows;
-        places[number].drops = places[number].drops.saturating_add(more);
+/// Whether a search shows a row, which is then known.
+fn is_shown(
+    alloc: Global,
+    posts: &[Poly],
+    row: &Row,
+    number: u32,
+    search: &mut CaseSearch,
+    seen: &mut CaseSeen,
+) -> Result<bool, AllocError> {
+    match search.shown_by(alloc, posts, row)? {
+        Some(by) => {
+            seen.kept.push(KeptRow { number, by })?;
+            Ok(true)
+        }
+        None => Ok(false),
     }
 }

@@ -2,152 +2,164 @@ ghost use Rattle.std.specs.Prelude.{IfOk};
 ghost use Rattle.point_rounds.specs.Source.{IsRoundSource};
 ghost use Rattle.point_rounds.specs.Table.{IsTable};
 
-use crate::arrivals::arrivals;
-use crate::dropping::drop_rows;
-use crate::places::{PlaceNumbers, RowsLeft, empty_places, entry_numbers, rows_left};
+use crate::arrivals::all_arrivals;
+use crate::counts::{MOST_MAKINGS, SearchLeft};
+use crate::dropping::{CaseSeen, drop_rows, unseen};
+use crate::places::{PlaceNumbers, RowsLeft, clear, empty_places, entry_numbers, rows_left};
+use crate::steps::{OwnSteps, make_anew, mark_stale, no_steps};
 use crate::strongest::strongest;
 use crate::tables::{PlacesLeft, proc_count, table_of};
 use crate::texts::program_texts;
 use crate::tried::{TriedSource, put_exit_bounds, put_exit_rows, put_point_rows};
-use finder::Finder;
 use items::Items;
-use point_rounds::{PointTable, RoundSource, RowPlace, StepFrom, steps_by_table};
-use posing::Log;
+use point_rounds::{PointTable, RoundSource, RowPlace};
 use std::alloc::{AllocError, Global};
 use std::mem;
 
-/// How many questions are asked for bounds.
-const MOST_BOUND_QUESTIONS: usize = 40_000;
-
-/// How many questions are asked where rows are dropped.
-const MOST_DROP_QUESTIONS: usize = 40_000;
-
-/// How often steps are made.
-const MOST_MAKINGS: usize = 16;
-
-/// The questions that are left.
-#[derive(Clone, Copy)]
-struct QuestionsLeft {
-    bounds: usize,
-    drops: usize,
+/// A table of rows that was found, and whether the search was cut, so that others may be missing.
+#[derive(Drop)]
+pub struct FoundTable {
+    pub table: PointTable,
+    pub is_cut: bool,
 }
 
 /// A table of rows that may hold at the points and exits of a program's procedures: of the rows of
 /// the text and of bounds those that steps keep. What it finds is told by no contract but that it
 /// is a table. The one error is want of memory.
-pub fn found_table(alloc: Global, source: RoundSource) -> Result<PointTable, AllocError>
+pub fn found_table(alloc: Global, source: RoundSource) -> Result<FoundTable, AllocError>
     requires { IsRoundSource source }
-    ensures { IfOk result (IsTable source.entry.program.now) }
+    ensures { IfOk result (λ found. IsTable source.entry.program.now found.table) }
 {
     let entries = entry_numbers(alloc, source.heads)?;
     let numbers = PlaceNumbers {
         entries: &entries,
         heads: source.heads,
     };
-    let places = found_rows(alloc, source, numbers)?;
+    let mut places = empty_places(alloc, source.heads)?;
+    let is_cut = find_rows(alloc, source, numbers, &mut places)?;
     let left = PlacesLeft {
         numbers,
         places: &places,
     };
-    table_of(alloc, source, left)
+    let table = table_of(alloc, source, left)?;
+    Ok(FoundTable { table, is_cut })
 }
 
-/// The rows that are found at places.
-fn found_rows(
-    alloc: Global,
-    source: RoundSource,
-    numbers: PlaceNumbers,
-) -> Result<Vec<RowsLeft>, AllocError>
-    requires { IsRoundSource source }
-{
-    let mut places = empty_places(alloc, source.heads)?;
-    let mut left = QuestionsLeft {
-        bounds: MOST_BOUND_QUESTIONS,
-        drops: MOST_DROP_QUESTIONS,
-    };
-    let mut fell = first_turn(alloc, source, numbers, &mut places, &mut left)?;
-    for _turn in 1..MOST_MAKINGS {
-        if fell {
-            fell = turn(alloc, source, numbers, &mut places, &mut left)?;
-        }
-    }
-    keep_strongest(alloc, &mut places)?;
-    Ok(places)
-}
-
-/// Makes steps by all candidates at exits, takes the candidates at points, and drops rows. It tells
-/// whether some fell at exits.
-fn first_turn(
+/// Finds the rows at places, and tells whether the search was cut.
+fn find_rows(
     alloc: Global,
     source: RoundSource,
     numbers: PlaceNumbers,
     places: &mut [RowsLeft],
-    left: &mut QuestionsLeft,
 ) -> Result<bool, AllocError>
+    requires { IsRoundSource source }
+{
+    let mut left = SearchLeft::new();
+    let mut steps = no_steps(alloc, proc_count(source))?;
+    take_candidates(alloc, source, numbers, &mut steps, places, &mut left)?;
+    if !keep_rows(alloc, source, numbers, &mut steps, places, &mut left)? {
+        clear(alloc, places);
+        return Ok(true);
+    }
+    keep_strongest(alloc, places)?;
+    Ok(left.is_cut)
+}
+
+/// Makes steps by all candidates at exits, and takes the candidates at points and bounds at exits.
+fn take_candidates(
+    alloc: Global,
+    source: RoundSource,
+    numbers: PlaceNumbers,
+    steps: &mut [OwnSteps],
+    places: &mut [RowsLeft],
+    left: &mut SearchLeft,
+) -> Result<(), AllocError>
     requires { IsRoundSource source }
 {
     let texts = program_texts(alloc, source)?;
     put_exit_rows(alloc, source, &texts, numbers, places)?;
-    let steps = steps_now(alloc, source, numbers, places)?;
-    let arrivals = arrivals(alloc, source, numbers, steps.as_slice())?;
+    make_anew(alloc, source, PlacesLeft { numbers, places }, steps)?;
+    let arrivals = all_arrivals(alloc, source, numbers, steps)?;
     let tried = TriedSource {
         texts: &texts,
         numbers,
         arrivals: &arrivals,
     };
-    put_point_rows(alloc, source, tried, places, &mut left.bounds)?;
-    put_exit_bounds(alloc, source, tried, places, &mut left.bounds)?;
-    let before = exit_count(source, numbers, places);
-    drop_rows(alloc, &arrivals, places, &mut left.drops)?;
-    Ok(exit_count(source, numbers, places) < before)
+    put_point_rows(alloc, source, tried, places, left)?;
+    put_exit_bounds(alloc, source, tried, places, left)
 }
 
-/// Makes steps by what is left, and drops rows. It tells whether some fell at exits.
-fn turn(
+/// Drops rows until all that are left are kept by steps that are made by them: where rows fall at an
+/// exit, those of its callers are made anew. It tells whether it came to an end.
+fn keep_rows(
     alloc: Global,
     source: RoundSource,
     numbers: PlaceNumbers,
+    steps: &mut [OwnSteps],
     places: &mut [RowsLeft],
-    left: &mut QuestionsLeft,
+    left: &mut SearchLeft,
 ) -> Result<bool, AllocError>
     requires { IsRoundSource source }
 {
-    let steps = steps_now(alloc, source, numbers, places)?;
-    let arrivals = arrivals(alloc, source, numbers, steps.as_slice())?;
-    let before = exit_count(source, numbers, places);
-    drop_rows(alloc, &arrivals, places, &mut left.drops)?;
-    Ok(exit_count(source, numbers, places) < before)
+    let mut seen = nothing_seen(alloc, steps)?;
+    for _making in 0..MOST_MAKINGS {
+        let before = exit_counts(alloc, source, numbers, places)?;
+        if !drop_by_steps(alloc, source, numbers, steps, &mut seen, places, left)? {
+            return Ok(false);
+        }
+        let now = exit_counts(alloc, source, numbers, places)?;
+        if !mark_stale(source, &before, &now, steps) {
+            return Ok(true);
+        }
+        make_anew(alloc, source, PlacesLeft { numbers, places }, steps)?;
+    }
+    Ok(false)
 }
 
-/// The steps by what is left at exits.
-fn steps_now(
+fn nothing_seen(alloc: Global, steps: &[OwnSteps]) -> Result<Vec<Vec<CaseSeen>>, AllocError> {
+    let mut seen = Vec::new(alloc);
+    for _own in steps {
+        seen.push(Vec::new(alloc))?;
+    }
+    Ok(seen)
+}
+
+/// Drops rows that steps do not keep. Nothing is known of those that were made anew. It tells whether
+/// it came to an end.
+fn drop_by_steps(
+    alloc: Global,
+    source: RoundSource,
+    numbers: PlaceNumbers,
+    steps: &[OwnSteps],
+    seen: &mut [Vec<CaseSeen>],
+    places: &mut [RowsLeft],
+    left: &mut SearchLeft,
+) -> Result<bool, AllocError> {
+    let arrivals = all_arrivals(alloc, source, numbers, steps)?;
+    for (proc, own) in arrivals.iter().enumerate() {
+        if proc < seen.len() && proc < steps.len() && steps[proc].is_stale {
+            seen[proc] = unseen(alloc, own.len())?;
+        }
+    }
+    drop_rows(alloc, &arrivals, seen, places, &mut left.judgements)
+}
+
+/// How many rows there are at the exit of each procedure.
+fn exit_counts(
     alloc: Global,
     source: RoundSource,
     numbers: PlaceNumbers,
     places: &[RowsLeft],
-) -> Result<Items<StepFrom>, AllocError>
+) -> Result<Vec<usize>, AllocError>
     requires { IsRoundSource source }
 {
-    let table = table_of(alloc, source, PlacesLeft { numbers, places })?;
-    let mut finder = Finder::new(alloc);
-    let mut log = Log::new(alloc);
-    match steps_by_table(alloc, source, &table, &mut finder, &mut log) {
-        Ok(steps) => Ok(steps),
-        Err(_memory) => Err(AllocError),
-    }
-}
-
-/// How many rows there are at exits.
-fn exit_count(source: RoundSource, numbers: PlaceNumbers, places: &[RowsLeft]) -> usize
-    requires { IsRoundSource source }
-{
-    let mut count: usize = 0;
+    let mut counts = Vec::new(alloc);
     let procs = proc_count(source);
     for proc in 0..procs {
         let rows = rows_left(places, numbers.of(RowPlace::AtExit { proc }));
-        count = count.saturating_add(rows.len());
+        counts.push(rows.len())?;
     }
-    count
+    Ok(counts)
 }
 
 /// Keeps at each place the strongest rows alone.

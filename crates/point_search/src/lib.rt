@@ -6,12 +6,14 @@
 mod arrivals;
 mod bounds;
 mod case_search;
+mod counts;
 mod dropping;
 mod found;
 mod places;
+mod steps;
 mod strongest;
 mod tables;
 mod texts;
 mod tried;
 
-pub use found::found_table;
+pub use found::{FoundTable, found_table};

@@ -4,11 +4,24 @@ use point_rounds::RowPlace;
 use std::alloc::{AllocError, Global};
 use std::mem;
 
-/// The rows that are left at a place, and how often some were dropped there.
+/// The rows that are left at a place, the number of each among those that were tried there, in their
+/// order, and how often some were dropped.
 #[derive(Drop)]
 pub(crate) struct RowsLeft {
     pub(crate) rows: Items<Row>,
+    pub(crate) numbers: Items<u32>,
     pub(crate) drops: usize,
+}
+
+impl RowsLeft {
+    /// No rows, where some were dropped so often.
+    pub(crate) fn none(alloc: Global, drops: usize) -> RowsLeft {
+        RowsLeft {
+            rows: Items::new(alloc),
+            numbers: Items::new(alloc),
+            drops,
+        }
+    }
 }
 
 /// The places of a program in one list: for each procedure its entry, its heads in the order of
@@ -91,10 +104,7 @@ pub(crate) fn empty_places(
 
 fn add_empty(alloc: Global, count: usize, places: &mut Vec<RowsLeft>) -> Result<(), AllocError> {
     for _place in 0..count {
-        places.push(RowsLeft {
-            rows: Items::new(alloc),
-            drops: 0,
-        })?;
+        places.push(RowsLeft::none(alloc, 0))?;
     }
     Ok(())
 }
@@ -107,6 +117,14 @@ pub(crate) fn rows_left(places: &[RowsLeft], number: usize) -> &[Row] {
     }
 }
 
+/// The numbers of the rows at the place of a number.
+pub(crate) fn numbers_left(places: &[RowsLeft], number: usize) -> &[u32] {
+    match places.get(number) {
+        Some(left) => left.numbers.as_slice(),
+        None => &[],
+    }
+}
+
 /// How often rows were dropped at the place of a number.
 pub(crate) fn drops_at(places: &[RowsLeft], number: usize) -> usize {
     match places.get(number) {
@@ -115,19 +133,55 @@ pub(crate) fn drops_at(places: &[RowsLeft], number: usize) -> usize {
     }
 }
 
-/// Puts rows at the place of a number.
-pub(crate) fn put_rows(places: &mut [RowsLeft], number: usize, rows: Items<Row>) {
+/// Puts the rows that are tried at the place of a number.
+pub(crate) fn put_rows(
+    alloc: Global,
+    places: &mut [RowsLeft],
+    number: usize,
+    rows: Items<Row>,
+) -> Result<(), AllocError> {
     if number < places.len() {
-        places[number].rows = rows;
+        let numbers = first_numbers(alloc, rows.len())?;
+        places[number] = RowsLeft {
+            rows,
+            numbers,
+            drops: 0,
+        };
+    }
+    Ok(())
+}
+
+/// The numbers from 0 on.
+fn first_numbers(alloc: Global, count: usize) -> Result<Items<u32>, AllocError> {
+    let mut numbers = Items::new(alloc);
+    let mut next: u32 = 0;
+    for _row in 0..count {
+        numbers.push(next)?;
+        next = next.saturating_add(1);
+    }
+    Ok(numbers)
+}
+
+/// Takes away what is left at the place of a number.
+pub(crate) fn taken_rows(alloc: Global, places: &mut [RowsLeft], number: usize) -> RowsLeft {
+    if number < places.len() {
+        mem::replace(&mut places[number], RowsLeft::none(alloc, 0))
+    } else {
+        RowsLeft::none(alloc, 0)
     }
 }
 
-/// Takes the rows away from the place of a number.
-pub(crate) fn taken_rows(alloc: Global, places: &mut [RowsLeft], number: usize) -> Items<Row> {
+/// Puts back what is left at the place of a number.
+pub(crate) fn put_left(places: &mut [RowsLeft], number: usize, left: RowsLeft) {
     if number < places.len() {
-        mem::replace(&mut places[number].rows, Items::new(alloc))
-    } else {
-        Items::new(alloc)
+        places[number] = left;
+    }
+}
+
+/// Drops all rows.
+pub(crate) fn clear(alloc: Global, places: &mut [RowsLeft]) {
+    for place in places.iter_mut() {
+        *place = RowsLeft::none(alloc, 0);
     }
 }
 

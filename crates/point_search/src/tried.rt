@@ -3,7 +3,8 @@ ghost use Rattle.point_rounds.specs.Source.{IsRoundSource};
 
 use crate::arrivals::PointArrival;
 use crate::bounds::{BoundPlace, add_bounds};
-use crate::case_search::{CaseSearch, copies_of, search_over};
+use crate::case_search::{CaseSearch, copies_of, is_listed, search_over};
+use crate::counts::SearchLeft;
 use crate::places::{PlaceNumbers, RowsLeft, first_rows, put_rows, taken_rows};
 use crate::tables::{MOST_TRIED, entry_columns_of, pair_columns_of, proc_count, state_columns_of};
 use crate::texts::{ProgramTexts, rows_tried_at_exit};
@@ -19,7 +20,7 @@ use vocabularies::{entry, full};
 pub(crate) struct TriedSource<'a> {
     pub(crate) texts: &'a ProgramTexts,
     pub(crate) numbers: PlaceNumbers<'a>,
-    pub(crate) arrivals: &'a [PointArrival<'a>],
+    pub(crate) arrivals: &'a [Vec<PointArrival<'a>>],
 }
 
 // ---- exits
@@ -39,7 +40,7 @@ pub(crate) fn put_exit_rows(
         if source.program.main != proc {
             let rows = rows_tried_at_exit(alloc, source, texts, proc)?;
             let first = first_rows(alloc, MOST_TRIED, rows)?;
-            put_rows(places, numbers.of(RowPlace::AtExit { proc }), first);
+            put_rows(alloc, places, numbers.of(RowPlace::AtExit { proc }), first)?;
         }
     }
     Ok(())
@@ -51,7 +52,7 @@ pub(crate) fn put_exit_bounds(
     source: RoundSource,
     tried: TriedSource,
     places: &mut [RowsLeft],
-    left: &mut usize,
+    left: &mut SearchLeft,
 ) -> Result<(), AllocError>
     requires { IsRoundSource source }
 {
@@ -70,7 +71,7 @@ fn put_bounds_at_exit(
     tried: TriedSource,
     proc: u32,
     places: &mut [RowsLeft],
-    left: &mut usize,
+    left: &mut SearchLeft,
 ) -> Result<(), AllocError>
     requires source { IsRoundSource source }
     requires there { proc < length source.program.now.procs }
@@ -83,11 +84,10 @@ fn put_bounds_at_exit(
         apart: false,
         arrivals: tried.arrivals,
     };
-    let mut rows = taken_rows(alloc, places, number);
+    let mut rows = taken_rows(alloc, places, number).rows;
     add_bounds(alloc, place, polys.as_slice(), left, &mut rows)?;
     let kept = first_rows(alloc, MOST_TRIED, rows)?;
-    put_rows(places, number, kept);
-    Ok(())
+    put_rows(alloc, places, number, kept)
 }
 
 /// The columns from one on up to another, each with both signs.
@@ -117,14 +117,14 @@ pub(crate) fn put_point_rows(
     source: RoundSource,
     tried: TriedSource,
     places: &mut [RowsLeft],
-    left: &mut usize,
+    left: &mut SearchLeft,
 ) -> Result<(), AllocError>
     requires { IsRoundSource source }
 {
     for state in source.states {
         if is_tried(source, state) {
             let rows = rows_tried_at(alloc, source, tried, state, left)?;
-            put_rows(places, number_of(tried, state), rows);
+            put_rows(alloc, places, number_of(tried, state), rows)?;
         }
     }
     Ok(())
@@ -148,7 +148,7 @@ fn rows_tried_at(
     source: RoundSource,
     tried: TriedSource,
     state: &PointState,
-    left: &mut usize,
+    left: &mut SearchLeft,
 ) -> Result<Items<Row>, AllocError>
     requires { IsRoundSource source }
 {
@@ -165,7 +165,7 @@ fn all_rows_at(
     source: RoundSource,
     tried: TriedSource,
     state: &PointState,
-    left: &mut usize,
+    left: &mut SearchLeft,
 ) -> Result<Items<Row>, AllocError>
     requires source { IsRoundSource source }
     requires there { state.now.proc < length source.program.now.procs }
@@ -242,10 +242,6 @@ fn add_over(columns: u32, text: &[Row], rows: &mut Items<Row>) -> Result<(), All
         }
     }
     Ok(())
-}
-
-fn is_listed(rows: &[Row], row: &Row) -> bool {
-    rows.iter().any(|known| known == row)
 }
 
 // ---- rows that a state entails

@@ -4,7 +4,6 @@
 #![tactic(auto)]
 
 mod ends;
-mod extending;
 mod outs;
 mod source;
 mod states;

@@ -16,9 +16,9 @@ ghost use Rattle.point_steps.specs.Parts.{ArePointEnds, HoldsAtPoint, IsEntryCas
 ghost use Rattle.point_steps.specs.States.{begun_case, losses_in_state, state_by, state_case, state_formula, state_from};
 
 use crate::ends::{PointEnds, ends_of};
-use crate::extending::{extended_case, extended_formula};
 use crate::telling::{add_told, first_of, sequences};
 use checked_tree::settled_and_fitted;
+use context::{extended_case, extended_formula};
 use farkas_check::Oracle;
 use items::Items;
 use linear_terms::Case;

@@ -25,11 +25,11 @@ use Rattle.point_induction.specs.Points.{heads_of, is_head}
 use Rattle.proc_summary.specs.Parts.{IsFit}
 use Rattle.proc_summary.specs.Subject.{arc_leaf, link_of, own_graph}
 use Rattle.proc_summary.proofs.CratesBelow.{EdgeFits, act-fits, all_get, leaf_few, some_at}
-use Rattle.proc_summary.proofs.Graphs.{few-solvable, full-columns, full-end, narrow, proc-fit}
+use Rattle.proc_summary.proofs.Graphs.{few-solvable, full-columns, full-end, leaf-ends, narrow, proc-fit}
 use Rattle.point_ways.specs.Ways.{arrival_node, head_rank, is_ahead, way_arcs, way_end, way_graph, way_link}
 use Rattle.point_ways.proofs.AheadNodes.{edge-forward}
 use Rattle.point_ways.proofs.HeadRanks.{ranks_are_places}
-use Rattle.point_ways.proofs.Leaves.{act-of_arc, leaf-ends, wide}
+use Rattle.point_ways.proofs.EdgeActs.{act-of_arc, wide}
 
 -- an edge leads between nodes, if to a head then to its arrival, and forward
 record LeadsOn (nodes : ℕ) (link : Link) : Type 0 where

@@ -2,7 +2,7 @@
 pub mod AheadNodes
 pub mod HeadRanks
 -- ---- the graph of ways leads forward, and passages are its runs
-pub mod Leaves
+pub mod EdgeActs
 pub mod ForwardWays
 pub mod WayRuns
 -- ---- the code: marks of nodes, and what is made of chosen edges

@@ -24,13 +24,13 @@ use Rattle.point_induction.specs.Points.{EntersNoHead, is_head}
 use Rattle.proc_summary.specs.Parts.{IsFit}
 use Rattle.proc_summary.specs.Subject.{arc_leaf, link_of, own_graph}
 use Rattle.proc_summary.proofs.CratesBelow.{act-fits, leaf_holds}
-use Rattle.proc_summary.proofs.Graphs.{length-after}
+use Rattle.proc_summary.proofs.Graphs.{leaf-ends, length-after}
 use Rattle.point_ways.specs.Claims.{ArrivalBetween, PassageBetween, WaysHold}
 use Rattle.point_ways.specs.Ways.{arrival_node, is_ahead, way_arcs, way_end, way_graph, way_link}
 use Rattle.point_ways.proofs.AheadNodes.{marked-next, source-marked}
 use Rattle.point_ways.proofs.Choices.{filter-place}
 use Rattle.point_ways.proofs.ForwardWays.{arc-inside}
-use Rattle.point_ways.proofs.Leaves.{act-of_arc, leaf-ends, wide}
+use Rattle.point_ways.proofs.EdgeActs.{act-of_arc, wide}
 
 module _ (program : Program) (proc : ℕ) (p : Proc) (known : List (Option Transition)) (is_proc : IsProcOf program proc p) (formed : IsWellFormed program)
     (are : AreKnown program known) (source : ℕ) (inside : IsGraph (own_graph p).nodes (map link_of (own_graph p).arcs))

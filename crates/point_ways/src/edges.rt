@@ -19,9 +19,9 @@ use leaf_cases::leaf;
 use path_expr::Link;
 use point_induction::heads;
 use polyhedra::Vocabulary;
+use proc_summary::full_vocabularies;
 use std::alloc::{AllocError, Global};
 use transition_formula::{Formula, FormulaError, Loss};
-use vocabularies::full;
 
 /// The links of the edges that start at nodes ahead.
 pub(crate) fn way_links(
@@ -127,27 +127,7 @@ pub(crate) fn way_nodes(alloc: Global, own: KnownGraph) -> Result<Items<Vocabula
         ≡ replicate (own.entry.graph.now.nodes + length (heads_of (plain own.entry.graph.now)))
         (full_of own.entry.program.now p)) }
 {
-    let full = full(alloc, own.program, own.proc)?;
     let heads = heads(alloc, own.graph)?;
-    copies_of(alloc, &full, own.graph.nodes as usize + heads.len())
-}
-
-fn copies_of(alloc: Global, voc: &Vocabulary, count: usize) -> Result<Items<Vocabulary>, AllocError>
-    ensures { IfOk result (λ copies. copies ≡ replicate count voc.now) }
-{
-    let mut copies = Items::new(alloc);
-    for _place in 0..count {
-        copies.push(voc.clone()?)?;
-    }
-    Ok(copies)
-}
-
-/// Each formula has the posts and columns that it says, as its type keeps them. It goes over the
-/// formulas and has no part in an answer.
-pub(crate) fn see_fit(leaves: &[Formula])
-    ensures { AllByRecursion IsFit leaves.now }
-{
-    for leaf in leaves {
-        let _ = leaf.cases();
-    }
+    let count = own.graph.nodes as usize + heads.len();
+    full_vocabularies(alloc, own.program, own.proc, count)
 }

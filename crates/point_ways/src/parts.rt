@@ -4,12 +4,13 @@ ghost use Rattle.vocabularies.specs.Procs.{IsProcOf};
 ghost use Rattle.point_ways.specs.Parts.{AreWayParts, IsKnownGraph};
 
 use crate::ahead::marks_ahead;
-use crate::edges::{see_fit, way_leaves, way_links, way_nodes};
+use crate::edges::{way_leaves, way_links, way_nodes};
 use flow_graph::Graph;
 use items::Items;
 use path_expr::Link;
 use point_induction::head_marks;
 use polyhedra::Vocabulary;
+use proc_summary::see_fit;
 use std::alloc::Global;
 use syntax_tree::Program;
 use transition_formula::{Formula, FormulaError, Loss};

@@ -152,7 +152,7 @@ module _ (columns globals : ℕ) (known : List (Option Transition)) where
   call-from args into (Some None) = (refl, refl)
   call-from args into (Some (Some f)) = (refl, refl)
 
-  leaf-ends : (s : Statement) → ((leaf_of columns globals known s).from ≡ columns) × ((leaf_of columns globals known s).to ≡ columns)
+  pub leaf-ends : (s : Statement) → ((leaf_of columns globals known s).from ≡ columns) × ((leaf_of columns globals known s).to ≡ columns)
   leaf-ends (Set col value) = (refl, refl)
   leaf-ends (Any col) = (refl, refl)
   leaf-ends (Call proc args into) = call-from args into (slice_get known proc)

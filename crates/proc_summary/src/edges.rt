@@ -2,6 +2,7 @@ ghost use Rattle.std.specs.Prelude.{◌≡◌, ◌<◌, ◌++◌, length, map, r
 ghost use Rattle.std.specs.List.{AllByRecursion, flat_map};
 ghost use Rattle.syntax_tree.specs.WellFormed.{IsWellFormed};
 ghost use Rattle.syntax_tree.specs.declared.program.Proc.{Proc as Procedure};
+ghost use Rattle.vocabularies.specs.Ends.{full_of};
 ghost use Rattle.vocabularies.specs.Procs.{IsProcOf};
 ghost use Rattle.leaf_cases.specs.Conditions.{AreKnown};
 ghost use Rattle.proc_summary.specs.Parts.{IsGraphOf, IsOwnGraph, own_subject, edge_link, edge_leaf, losses_in_edge, AreActsOf, IsFit, ArePartsOf};
@@ -56,8 +57,7 @@ pub(crate) fn parts_of(alloc: Global, own: OwnGraph) -> Result<Parts, FormulaErr
     let mut lost = Items::new(alloc);
     let leaves = leaves_of(alloc, own.program, own.proc, edges, own.known, &mut lost)?;
     let links = links_of(alloc, edges)?;
-    let full = full(alloc, own.program, own.proc)?;
-    let nodes = copies_of(alloc, &full, own.graph.nodes)?;
+    let nodes = full_vocabularies(alloc, own.program, own.proc, own.graph.nodes as usize)?;
     see_fit(leaves.as_slice());
     Ok(Parts {
         links,
@@ -105,7 +105,24 @@ fn leaves_of(
     Ok(leaves)
 }
 
-fn copies_of(alloc: Global, voc: &Vocabulary, count: u32) -> Result<Items<Vocabulary>, AllocError>
+/// So many vocabularies of the states of a procedure, as for the nodes of a graph. An error is want
+/// of memory.
+pub fn full_vocabularies(
+    alloc: Global,
+    program: &Program,
+    proc: u32,
+    count: usize,
+) -> Result<Items<Vocabulary>, AllocError>
+    requires formed { IsWellFormed program.now }
+    requires there { proc < length program.now.procs }
+    ensures { (p : Procedure) → IsProcOf program.now proc p
+        → IfOk result (λ nodes. nodes ≡ replicate count (full_of program.now p)) }
+{
+    let full = full(alloc, program, proc)?;
+    copies_of(alloc, &full, count)
+}
+
+fn copies_of(alloc: Global, voc: &Vocabulary, count: usize) -> Result<Items<Vocabulary>, AllocError>
     ensures { IfOk result (λ copies. copies ≡ replicate count voc.now) }
 {
     let mut copies = Items::new(alloc);
@@ -117,7 +134,7 @@ fn copies_of(alloc: Global, voc: &Vocabulary, count: u32) -> Result<Items<Vocabu
 
 /// Each formula has the posts and columns that it says, as its type keeps them. It goes over the
 /// formulas and has no part in an answer.
-fn see_fit(leaves: &[Formula])
+pub fn see_fit(leaves: &[Formula])
     ensures { AllByRecursion IsFit leaves.now }
 {
     for leaf in leaves {

@@ -11,6 +11,7 @@ mod stop;
 mod stops;
 mod summary;
 
+pub use edges::{full_vocabularies, see_fit};
 pub use laws::alike_procedures_are_one;
 pub use nodes::{cells, trees};
 pub use stop::{Flow, NodeFormula};

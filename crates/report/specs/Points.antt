@@ -1,9 +1,10 @@
 -- The text of rows that hold where activations are at points of their procedures, or return; and
 -- the report with these.
-use Rattle.std.specs.Prelude.{ℕ, decimal, List, ◌++◌, codes}
+use Rattle.std.specs.Prelude.{ℕ, Bool, decimal, List, ◌++◌, codes, if◌then◌else◌}
 use Rattle.std.specs.List.{flat_map}
 use Rattle.report.specs.declared.blocks.Report.{Report}
 use Rattle.report.specs.declared.points.PointRows.{PointRows}
+use Rattle.report.specs.declared.points.PointsTold.{PointsTold}
 use Rattle.report.specs.declared.points.RowsAt.{RowsAt}
 use Rattle.report.specs.declared.points.RowsAt.TheVariants.{Entry, Loop, Return}
 use Rattle.report.specs.Text.{Names, assertions_text_from, entry_names, exit_names, note_line, proc_text, row_line, total_text}
@@ -25,10 +26,14 @@ point_rows_text point =
     place_text point.at point.name ++ codes "\n"
     ++ flat_map (row_line (row_names point)) point.rows
 
--- the whole report with rows at points: the procedures, the notes on their entries, the rows, the
--- assertions numbered from 1, and the total
-abbrev pub text_with_points : Report → List PointRows → List ℕ
-text_with_points report points =
+-- a line that says that rows may be missing, where the search for them ended at its counts
+abbrev pub search_text : Bool → List ℕ
+search_text is_cut = if is_cut then codes "note search beyond\n" else codes ""
+
+-- the whole report with rows at points: the procedures, the notes on their entries and on the search
+-- for rows, the rows, the assertions numbered from 1, and the total
+abbrev pub text_with_points : Report → PointsTold → List ℕ
+text_with_points report told =
     flat_map (proc_text report.procs) report.procs ++ flat_map (note_line report.procs) report.notes
-    ++ flat_map point_rows_text points
+    ++ search_text told.is_cut ++ flat_map point_rows_text told.rows
     ++ assertions_text_from report.procs 1 report.judged ++ total_text report.judged

@@ -18,6 +18,6 @@ mod verdict;
 
 pub use blocks::{Judged, ProcBlock, Report};
 pub use costs::print_costs;
-pub use points::{PointRows, RowsAt};
+pub use points::{PointRows, PointsTold, RowsAt};
 pub use printing::{print, print_with_points, proved_assertions, unproved_assertions};
 pub use verdict::Verdict;

@@ -1,6 +1,6 @@
 ghost use Rattle.std.specs.Prelude.{◌++◌, codes, decimal};
 ghost use Rattle.std.specs.List.{flat_map};
-ghost use Rattle.report.specs.Points.{place_text, point_rows_text};
+ghost use Rattle.report.specs.Points.{place_text, point_rows_text, search_text};
 ghost use Rattle.report.specs.Appends.{Appends};
 
 use crate::names::{letters, row_names};
@@ -35,7 +35,22 @@ pub struct PointRows {
     pub rows: Items<Row>,
 }
 
+/// What is told of points: the rows there, in order, and whether some may be missing, because the
+/// search for them ended at its counts.
+#[derive(Drop)]
+pub struct PointsTold {
+    pub is_cut: bool,
+    pub rows: Items<PointRows>,
+}
+
 impl ReportText {
+    /// A line that says that rows may be missing, where the search for them was cut.
+    pub(crate) fn put_search(&mut self, is_cut: bool) -> Result<(), AllocError>
+        ensures { Appends self.old self.new result (search_text is_cut) }
+    {
+        self.put(if is_cut { "note search beyond\n" } else { "" })
+    }
+
     /// Where rows hold, without an end of the line.
     #[tactic(auto, unfolding(crate::specs::Points::place_text))]
     fn put_place(&mut self, at: RowsAt, name: &Name) -> Result<(), AllocError>

@@ -1,11 +1,11 @@
-ghost use Rattle.std.specs.Prelude.{◌≡◌, [], ◌-◌, ◌++◌, ◌+◌, IfOk, IsUtf8, length};
+ghost use Rattle.std.specs.Prelude.{◌≡◌, [], ◌-◌, ◌++◌, ◌+◌, false, IfOk, IsUtf8, length};
 ghost use Rattle.std.specs.List.{count_by, flat_map};
 ghost use Rattle.report.specs.Text.{is_proof, is_proved, assertions_text_from, proc_text, proved_count, text_of, total_text};
 ghost use Rattle.report.specs.Points.{text_with_points};
 ghost use Rattle.report.specs.Appends.{Appends};
 
 use crate::text::ReportText;
-use crate::{Judged, PointRows, ProcBlock, Report, Verdict};
+use crate::{Judged, PointsTold, ProcBlock, Report, Verdict};
 use std::alloc::{AllocError, Global};
 
 impl ReportText {
@@ -92,21 +92,24 @@ pub fn print(alloc: Global, report: &Report) -> Result<Vec<u8>, AllocError>
     Ok(text.into_bytes())
 }
 
-/// The text of a report with rows at points, which stand in their order before the assertions. It
-/// takes time in proportion to the text. Without rows it is that of the report alone.
+/// The text of a report with rows at points, which stand in their order before the assertions; where
+/// the search for them was cut, a note says so. It takes time in proportion to the text. Without rows,
+/// and where nothing was cut, it is that of the report alone.
 pub fn print_with_points(
     alloc: Global,
     report: &Report,
-    points: &[PointRows],
+    told: &PointsTold,
 ) -> Result<Vec<u8>, AllocError>
-    ensures bytes { IfOk result (λ text. text.items ≡ text_with_points report.now points.now) }
+    ensures bytes { IfOk result (λ text. text.items ≡ text_with_points report.now told.now) }
     ensures utf8 { IfOk result (λ text. IsUtf8 text.items) }
-    ensures without { text_with_points report.now [] ≡ text_of report.now }
+    ensures without { text_with_points report.now (record { is_cut = false; rows = [] })
+        ≡ text_of report.now }
 {
     let mut text = ReportText::new(alloc);
     text.put_procs(alloc, &report.procs)?;
     text.put_notes(alloc, &report.procs, &report.notes)?;
-    text.put_points(alloc, points)?;
+    text.put_search(told.is_cut)?;
+    text.put_points(alloc, told.rows.as_slice())?;
     text.put_assertions(alloc, &report.procs, &report.judged)?;
     text.put_total(&report.judged)?;
     Ok(text.into_bytes())

@@ -7,7 +7,9 @@ use items::Items;
 use linear_terms::Row;
 use polynomial_texts::{case, row};
 use posing::Note;
-use report::{Judged, PointRows, ProcBlock, Report, RowsAt, Verdict, print_with_points};
+use report::{
+    Judged, PointRows, PointsTold, ProcBlock, Report, RowsAt, Verdict, print_with_points,
+};
 use std::alloc::Global;
 use std::process::Abort;
 use std::test::Fail;
@@ -144,14 +146,17 @@ fn point_rows(alloc: Global, text: &str) -> Result<PointRows, Fail> {
     })
 }
 
-fn all_point_rows(alloc: Global, text: &str) -> Result<Items<PointRows>, Fail> {
-    let mut made = Items::new(alloc);
+fn points_told(alloc: Global, text: &str) -> Result<PointsTold, Fail> {
+    let mut rows = Items::new(alloc);
     for part in text.split("> ") {
         if let Some(rest) = part.strip_prefix("rows ") {
-            made.push(point_rows(alloc, rest.trim())?)?;
+            rows.push(point_rows(alloc, rest.trim())?)?;
         }
     }
-    Ok(made)
+    Ok(PointsTold {
+        is_cut: text.contains("> search cut\n"),
+        rows,
+    })
 }
 
 fn report(alloc: Global, text: &str) -> Result<Report, Fail> {
@@ -174,8 +179,8 @@ fn report(alloc: Global, text: &str) -> Result<Report, Fail> {
 
 fn check_report(alloc: Global, rt: &impl Abort, row: &str) -> Result<(), Fail> {
     let (parts, text) = row.split_once("\n> report\n").ok_or("no report")?;
-    let points = all_point_rows(alloc, parts)?;
-    let printed = print_with_points(alloc, &report(alloc, parts)?, &points)?;
+    let told = points_told(alloc, parts)?;
+    let printed = print_with_points(alloc, &report(alloc, parts)?, &told)?;
     assert_eq!(rt; str::from_utf8(&printed)?.trim_end(), text);
     Ok(())
 }

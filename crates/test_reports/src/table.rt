@@ -7,7 +7,7 @@ pub(crate) const COUNT: usize = 28;
 /// number of its exit columns and its notes, and then its cases; an assertion its place, the names
 /// and numbers of its columns, and its case and the numbers of its point, or that it is proved;
 /// rows at a point where they hold, the name of the procedure, the names of the columns, and those
-/// of the globals that are left, and then the rows.
+/// of the globals that are left, and then the rows; that the search for rows was cut.
 pub(crate) const TABLE: &str = "\
 > procedure main ;  ;  ; 1 ; 
 1 ; $1
@@ -449,6 +449,7 @@ x1 - x2 - 6 <= 0
 > rows return two ; b ; 
 -x1 <= 0
 x1 - 4 <= 0
+> search cut
 > assertion 2 34 @ r @ 0 @ proved
 > assertion 2 50 @ r @ 0 @ 1 | -$1 + 4 <= 0 ; $1 @ 4
 > report
@@ -460,6 +461,7 @@ case 1
   -$1 <= 0
   $1 - 3 <= 0
   $ret = $2
+note search beyond
 reached two loop 1
   -s <= 0
   s - 4 <= 0

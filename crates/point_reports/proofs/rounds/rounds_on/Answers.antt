@@ -1,39 +1,61 @@
-use Rattle.std.proofs.Common.{[], refl, sym, ap, subst, ◌∙◌}
-use Rattle.std.specs.Prelude.{IfOk}
+use Rattle.std.proofs.Common.{false, List, [], refl, sym, ap, subst, ◌∙◌}
+use Rattle.syntax_tree.specs.declared.program.Program.{Program}
 use Rattle.posing.proofs.Following.{stops}
-use Rattle.posing.proofs.Steps.{error_first, in_other_words, value_first}
+use Rattle.posing.proofs.Steps.{at_end, error_first, value_first}
 use Rattle.context.specs.Claims.{AreEntries, AreFlows, EntriesHold, FlowsHold}
 use Rattle.leaf_cases.specs.Conditions.{AreKnown}
 use Rattle.point_induction.specs.Induction.{AreTrue}
+use Rattle.posing.specs.Posing.{Posing, Done, ◌>>=◌}
 use Rattle.point_rounds.specs.declared.round.PointRound.{PointRound}
-use Rattle.point_rounds.specs.declared.table.PointTable.{PointTable}
+use Rattle.point_rounds.specs.declared.round.PointState.{PointState}
 use Rattle.point_rounds.specs.Closed.{ArePointStates, CoverTable, StatesHold, TellCalls}
 use Rattle.point_rounds.specs.Sayings.{sayings_of_table}
 use Rattle.point_rounds.specs.Source.{AreGraphsOf, all_heads}
 use Rattle.point_rounds.specs.Rounds.{last_round}
+use Rattle.point_search.specs.declared.found.FoundTable.{FoundTable}
 use Rattle.point_states.specs.AllStates.{states_of_points}
-use Rattle.point_reports.specs.Parts.{IsKnownAtPoints}
+use Rattle.analysis.specs.declared.whole.FoundReport.{FoundReport}
+use Rattle.point_reports.specs.declared.rounds.RoundsTold.{RoundsTold}
 use Rattle.point_reports.specs.Proof.{rounds_on}
-use Rattle.point_reports.proofs.PointTruth.{calls-told, if_ok-both, points-known}
+use Rattle.point_reports.proofs.PointTruth.{calls-told, points-known}
 use Rattle.point_reports.proofs.rounds.rounds_on.Goals as goal
 
 -- any table
-none : PointTable
-none = record { points = []; exits = [] }
+none : FoundTable
+none = record { table = record { points = []; exits = [] }; is_cut = false }
+
+-- what is told of a round that was left of a table
+abbrev told_of : FoundTable → PointRound → Posing RoundsTold
+told_of found round = Done record { round = round; is_cut = found.is_cut }
+
+-- what follows the states of points
+abbrev after_states : Program → FoundReport → FoundTable → List PointState → Posing RoundsTold
+after_states program made found states = last_round program made.known states found.table >>= told_of found
 
 pub returns-in_err-states-clause-follows : goal.returns-in_err-states-clause-follows
 unfolding rounds_on
 returns-in_err-states-clause-follows g c =
     let program = c.args.ground.program.now in
     let made = c.args.ground.made.now in
-    (none, error_first (λ states. last_round program made.known states none) c.in_err-states.ensures.follows (λ i. states_of_points program (c.as_slice.ensures i) (c.as_slice-2.ensures i)) c.from_residual.ensures.1)
+    (none, error_first (after_states program made none) c.in_err-states.ensures.follows (λ i. states_of_points program (c.as_slice.ensures i) (c.as_slice-2.ensures i)) c.from_residual.ensures.1)
 
 pub returns-in_err-table-clause-follows : goal.returns-in_err-table-clause-follows
 unfolding rounds_on
 returns-in_err-table-clause-follows g c =
     let program = c.args.ground.program.now in
     let made = c.args.ground.made.now in
-    (none, value_first (λ states. last_round program made.known states none) c.in_ok-states.ensures.follows (λ i. states_of_points program (c.as_slice.ensures i) (c.as_slice-2.ensures i)) (stops _ _ _ _ _ _ refl c.from_residual-in_err-table.ensures.1))
+    (none, value_first (after_states program made none) c.in_ok-states.ensures.follows (λ i. states_of_points program (c.as_slice.ensures i) (c.as_slice-2.ensures i)) (stops _ _ _ _ _ _ refl c.from_residual-in_err-table.ensures.1))
+
+pub returns-in_err-round-clause-follows : goal.returns-in_err-round-clause-follows
+unfolding rounds_on
+returns-in_err-round-clause-follows g c =
+    let program = c.args.ground.program.now in
+    let made = c.args.ground.made.now in
+    let found = c.in_ok-table.field-0 in (
+      found,
+      value_first (after_states program made found) c.in_ok-states.ensures.follows (λ i. states_of_points program (c.as_slice.ensures i) (c.as_slice-2.ensures i))
+          (error_first (told_of found) c.in_err-round.ensures.follows (λ i. last_round program (c.as_slice-4.ensures i) (c.as_slice-5.ensures i) found.table) c.from_residual-in_err-round.ensures.1),
+    )
 
 pub point_states-requires-clause-entries : goal.point_states-requires-clause-entries
 point_states-requires-clause-entries g c = subst (AreEntries c.args.ground.program.now) (sym c.as_slice.ensures) c.requires.fits.entries
@@ -66,10 +88,10 @@ unfolding rounds_on
 returns-clause-follows g c =
     let program = c.args.ground.program.now in
     let made = c.args.ground.made.now in
-    let table = c.in_ok-table.table in (
-      table,
-      value_first (λ states. last_round program made.known states table) c.in_ok-states.ensures.follows (λ i. states_of_points program (c.as_slice.ensures i) (c.as_slice-2.ensures i))
-          (in_other_words (λ i. last_round program (c.as_slice-4.ensures i) (c.as_slice-5.ensures i) table) c.last_round.ensures.follows),
+    let found = c.in_ok-table.field-0 in (
+      found,
+      value_first (after_states program made found) c.in_ok-states.ensures.follows (λ i. states_of_points program (c.as_slice.ensures i) (c.as_slice-2.ensures i))
+          (value_first (told_of found) c.in_ok-round.ensures.follows (λ i. last_round program (c.as_slice-4.ensures i) (c.as_slice-5.ensures i) found.table) (at_end refl)),
     )
 
 pub returns-clause-known : goal.returns-clause-known
@@ -79,9 +101,8 @@ returns-clause-known g c = λ holds.
     let states = c.in_ok-states.states in
     let calls = calls-told program made c.requires.formed c.requires.fits holds in
     let reached = c.in_ok-states.ensures.holds (subst (EntriesHold program) (sym c.as_slice.ensures) holds.entries) (subst (FlowsHold program) (sym c.as_slice-2.ensures) holds.flows) in
-    let Covers : PointRound → Type 0 = λ left. CoverTable program made.known states left.steps left.table in
-    let True : PointRound → Type 0 = λ left. AreTrue program (sayings_of_table program left.table) in
-    let covers : IfOk c.last_round.result Covers = subst (λ known. IfOk c.last_round.result (λ (left : PointRound). CoverTable program known states left.steps left.table)) c.as_slice-4.ensures
-    (subst (λ all. IfOk c.last_round.result (λ (left : PointRound). CoverTable program c.as_slice-4.result.now all left.steps left.table)) c.as_slice-5.ensures c.last_round.ensures.covers) in
-    let are : IfOk c.last_round.result True = c.last_round.ensures.holds (subst (TellCalls program) (sym c.as_slice-4.ensures) calls) (subst (StatesHold program) (sym c.as_slice-5.ensures) reached) in
-    if_ok-both Covers True (IsKnownAtPoints program) c.last_round.result (λ left covered rows. points-known program made c.requires.formed c.requires.fits states left holds reached covered rows) covers are
+    let round = c.in_ok-round.round in
+    let covers : CoverTable program made.known states round.steps round.table = subst (λ known. CoverTable program known states round.steps round.table) c.as_slice-4.ensures
+    (subst (λ all. CoverTable program c.as_slice-4.result.now all round.steps round.table) c.as_slice-5.ensures c.in_ok-round.ensures.covers) in
+    let are : AreTrue program (sayings_of_table program round.table) = c.in_ok-round.ensures.holds (subst (TellCalls program) (sym c.as_slice-4.ensures) calls) (subst (StatesHold program) (sym c.as_slice-5.ensures) reached) in
+    points-known program made c.requires.formed c.requires.fits states round holds reached covers are

@@ -1,8 +1,8 @@
-use Rattle.std.proofs.Common.{◌≡◌, [], map, true, refl, sym, ap, subst, ◌∙◌}
+use Rattle.std.proofs.Common.{◌≡◌, [], map, true, false, refl, sym, ap, subst, ◌∙◌}
 use Rattle.std.specs.Prelude.{if◌then◌else◌}
 use Rattle.posing.specs.Posing.{Done}
 use Rattle.posing.proofs.Steps.{at_end, in_other_words}
-use Rattle.point_rounds.specs.declared.table.PointTable.{PointTable}
+use Rattle.point_search.specs.declared.found.FoundTable.{FoundTable}
 use Rattle.point_reports.specs.declared.whole.PointReport.{PointReport}
 use Rattle.report.specs.Claims.{PointsMeetRows}
 use Rattle.point_reports.specs.Claims.{AreAllMet}
@@ -12,8 +12,8 @@ use Rattle.point_reports.proofs.PointTruth.{none-met}
 use Rattle.point_reports.proofs.whole.points_if_open.Goals as goal
 
 -- any table
-none : PointTable
-none = record { points = []; exits = [] }
+none : FoundTable
+none = record { table = record { points = []; exits = [] }; is_cut = false }
 
 pub returns-then-are_all_proved-clause-follows : goal.returns-then-are_all_proved-clause-follows
 unfolding points_if_open
@@ -36,5 +36,5 @@ unfolding points_if_open
 returns-clause-follows g c =
     let program = c.args.program.now in
     let made = c.args.made in
-    let table = c.with_points.ensures.follows.0 in
-    (table, in_other_words (ap (λ proved. if proved then Done (without_points made) else with_points program made table) (sym c.if-are_all_proved.false ∙ c.are_all_proved.ensures)) c.with_points.ensures.follows.1)
+    let found = c.with_points.ensures.follows.0 in
+    (found, in_other_words (ap (λ proved. if proved then Done (without_points made) else with_points program made found) (sym c.if-are_all_proved.false ∙ c.are_all_proved.ensures)) c.with_points.ensures.follows.1)

@@ -1,19 +1,19 @@
-use Rattle.std.proofs.Common.{◌≡◌, [], refl, sym, ap, ◌∙◌}
+use Rattle.std.proofs.Common.{◌≡◌, false, [], refl, sym, ap, ◌∙◌}
 use Rattle.std.specs.Prelude.{IfOk, Result, map}
 use Rattle.posing.specs.Posing.{◌>>=◌}
 use Rattle.posing.proofs.Steps.{error_first, value_first}
 use Rattle.analysis.specs.Analysis.{found_report}
 use Rattle.analysis.proofs.Quiet.{quiet-kept}
 use Rattle.report.specs.Claims.{ReportCovers}
-use Rattle.point_rounds.specs.declared.table.PointTable.{PointTable}
+use Rattle.point_search.specs.declared.found.FoundTable.{FoundTable}
 use Rattle.point_reports.specs.Proof.{points_if_open, proof_by_plan}
 use Rattle.point_reports.proofs.PointTruth.{report-covers}
 use Rattle.point_reports.proofs.QuietProofs.{proof-quiet}
 use Rattle.point_reports.proofs.whole.prove.Goals as goal
 
 -- any table
-none : PointTable
-none = record { points = []; exits = [] }
+none : FoundTable
+none = record { table = record { points = []; exits = [] }; is_cut = false }
 
 pub returns-in_err-found-clause-follows : goal.returns-in_err-found-clause-follows
 unfolding proof_by_plan
@@ -57,20 +57,20 @@ pub returns-clause-follows : goal.returns-clause-follows
 unfolding proof_by_plan
 returns-clause-follows g c =
     let program = c.args.program.now in
-    let table = c.points_if_open.ensures.follows.0 in (
-      table,
-      value_first (λ found. found_report program c.args.places.now found >>= λ made. points_if_open program made table) c.in_ok-found.ensures.follows refl
-          (value_first (λ made. points_if_open program made table) c.in_ok-made.ensures.follows refl c.points_if_open.ensures.follows.1),
+    let search = c.points_if_open.ensures.follows.0 in (
+      search,
+      value_first (λ found. found_report program c.args.places.now found >>= λ made. points_if_open program made search) c.in_ok-found.ensures.follows refl
+          (value_first (λ made. points_if_open program made search) c.in_ok-made.ensures.follows refl c.points_if_open.ensures.follows.1),
     )
 
 pub returns-clause-kept : goal.returns-clause-kept
 unfolding proof_by_plan
 returns-clause-kept g c =
     let program = c.args.program.now in
-    let table = c.points_if_open.ensures.follows.0 in
-    quiet-kept _ _ _ _ _ _ _ (proof-quiet program c.args.places.now c.args.plan.now table)
-    (value_first (λ found. found_report program c.args.places.now found >>= λ made. points_if_open program made table) c.in_ok-found.ensures.follows refl
-    (value_first (λ made. points_if_open program made table) c.in_ok-made.ensures.follows refl c.points_if_open.ensures.follows.1))
+    let search = c.points_if_open.ensures.follows.0 in
+    quiet-kept _ _ _ _ _ _ _ (proof-quiet program c.args.places.now c.args.plan.now search)
+    (value_first (λ found. found_report program c.args.places.now found >>= λ made. points_if_open program made search) c.in_ok-found.ensures.follows refl
+    (value_first (λ made. points_if_open program made search) c.in_ok-made.ensures.follows refl c.points_if_open.ensures.follows.1))
 
 pub returns-clause-covers : goal.returns-clause-covers
 returns-clause-covers g c = λ theirs. report-covers c.args.program.now c.in_ok-made.made c.points_if_open.result c.points_if_open.ensures.keeps (c.in_ok-made.ensures.covers theirs)

@@ -1,5 +1,6 @@
 use Rattle.std.proofs.Common.{◌++◌, ap, ◌∙◌, map, replicate}
 use Rattle.std.specs.List.{flat_map}
+use Rattle.vocabularies.specs.Ends.{full_of}
 use Rattle.proc_summary.specs.Parts.{edge_leaf, edge_link, losses_in_edge}
 use Rattle.proc_summary.proofs.Graphs.{acts-are, leaves-are, links-are, losses-are, nodes-are}
 use Rattle.proc_summary.proofs.edges.parts_of.Goals as goal
@@ -15,5 +16,5 @@ returns-clause-made c = λ p is.
       links = c.in_ok-links.ensures ∙ ap (map edge_link) c.as_slice-edges.ensures ∙ links-are program c.args.own.proc p known is c.args.own.graph.now c.requires.graph;
       leaves = c.in_ok-leaves.ensures.made ∙ ap (map (edge_leaf program c.args.own.proc known)) c.as_slice-edges.ensures ∙ leaves-are program c.args.own.proc p known is c.args.own.graph.now c.requires.graph;
       lost = c.in_ok-leaves.ensures.noted ∙ ap (λ front. front ++ flat_map (losses_in_edge program c.args.own.proc known) c.as_slice-edges.result.now) c.new-lost.ensures ∙ ap (flat_map (losses_in_edge program c.args.own.proc known)) c.as_slice-edges.ensures ∙ losses-are program c.args.own.proc p known is c.args.own.graph.now c.requires.graph;
-      nodes = c.in_ok-nodes.ensures ∙ (λ i. replicate (nodes-are program c.args.own.proc p known is c.args.own.graph.now c.requires.graph i) (c.in_ok-full.ensures p is i));
+      nodes = c.in_ok-nodes.ensures p is ∙ (λ i. replicate (nodes-are program c.args.own.proc p known is c.args.own.graph.now c.requires.graph i) (full_of program p));
     }

@@ -2,7 +2,7 @@ use Rattle.std.proofs.Common.{arith}
 use Rattle.linear_terms.specs.declared.col.Col.TheVariants.{Aux}
 use Rattle.linear_terms.specs.Polynomial.{column_of}
 use Rattle.transition_formula.proofs.Ranges.{counted_from}
-use Rattle.point_steps.proofs.extending.auxiliaries.Goals as goal
+use Rattle.context.proofs.extending.auxiliaries.Goals as goal
 
 pub loop-number-preserved : goal.loop-number-preserved
 loop-number-preserved c =

@@ -10,12 +10,9 @@ use linear_terms::{Case, Col, Poly};
 use std::alloc::Global;
 use transition_formula::{Formula, FormulaError};
 
-/// The formula with as many posts as that, of which the further ones may be any numbers.
-pub(crate) fn extended_formula(
-    alloc: Global,
-    columns: u32,
-    f: &Formula,
-) -> Result<Formula, FormulaError>
+/// The formula with as many posts as that, of which the further ones may be any numbers. An error is
+/// want of memory.
+pub fn extended_formula(alloc: Global, columns: u32, f: &Formula) -> Result<Formula, FormulaError>
     requires more { f.now.to ≤ columns }
     requires few { HasFew 64 f.now }
     requires narrow { columns ≤ 1000 }
@@ -38,8 +35,8 @@ fn extended_cases(alloc: Global, more: u32, cases: &[Case]) -> Result<Items<Case
     Ok(made)
 }
 
-/// The case with so many posts more, each a new auxiliary.
-pub(crate) fn extended_case(alloc: Global, more: u32, case: &Case) -> Result<Case, FormulaError>
+/// The case with so many posts more, each a new auxiliary. An error is want of memory.
+pub fn extended_case(alloc: Global, more: u32, case: &Case) -> Result<Case, FormulaError>
     requires { case.now.aux + more < 2 ^ 32 }
     ensures { IfOk result (λ c. c ≡ extended_case more case.now) }
 {

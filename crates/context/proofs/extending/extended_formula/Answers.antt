@@ -3,7 +3,7 @@ use Rattle.std.specs.Prelude.{All}
 use Rattle.linear_terms.specs.declared.row.Case.{Case}
 use Rattle.transition_formula.specs.Transition.{IsTransition}
 use Rattle.context.proofs.FurtherPosts.{extended-made-fits}
-use Rattle.point_steps.proofs.extending.extended_formula.Goals as goal
+use Rattle.context.proofs.extending.extended_formula.Goals as goal
 
 pub extended_cases-requires-clause-few : goal.extended_cases-requires-clause-few
 extended_cases-requires-clause-few c = subst (All (λ (case : Case). case.aux ≤ 64)) (sym c.cases.ensures.cases) c.requires.few

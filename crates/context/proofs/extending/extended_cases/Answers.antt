@@ -2,7 +2,7 @@ use Rattle.std.proofs.Common.{◌∙◌}
 use Rattle.transition_formula.proofs.Loops.{one_mapped}
 use Rattle.leaf_cases.proofs.Guards.{all_mapped}
 use Rattle.context.specs.Verdicts.{extended_case}
-use Rattle.point_steps.proofs.extending.extended_cases.Goals as goal
+use Rattle.context.proofs.extending.extended_cases.Goals as goal
 
 pub loop-case-preserved : goal.loop-case-preserved
 loop-case-preserved c =

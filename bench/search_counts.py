@@ -1,0 +1,103 @@
+"""The counts by which the search for rows at points ends, and the note that tells of them, laid over an independent model of the rules,
+which has none. Whoever imports this, with the model on the path, has the model search so."""
+import candidates, leaves, reached, report
+from polyhedra import Work, directions
+from solve import Finder
+from summary import exit_columns
+
+MOST_BOUNDS = 100_000  # pairs of a direction and a case of a step
+MOST_JUDGEMENTS = 200_000  # pairs of a row and a case of a step
+MOST_MAKINGS = 64  # of steps
+
+greatest, show_note = reached.greatest, report.show_note
+
+
+class Search(reached.Reached):
+    def __init__(self, *given):
+        self.bounds, self.judgements, self.is_cut = MOST_BOUNDS, MOST_JUDGEMENTS, False
+        super().__init__(*given)
+        if self.is_cut:
+            self.work.notes.append(("search",))
+
+    def found(self):
+        program, graphs, count = self.program, self.graphs, len(self.program.procs)
+        callers = [{p for p, g in enumerate(graphs) for n in g.calls() if g.edges[n].act[1] == q} for q in range(count)]
+        every = candidates.shared_rows(program)
+        by_call = [candidates.by_callers(program, graphs, q) for q in range(count)]
+        rows = {(p, "exit"): candidates.exit_rows(program, p, by_call[p][1], every)[: reached.MOST_CANDIDATES] for p in range(count) if p != program.main}
+        arrivals = self.made(range(count), rows)
+        coming = {}
+        for p in range(count):
+            for target, arrival in arrivals[p]:
+                coming.setdefault(target, []).append(arrival)
+        for p, node in self.states:
+            if (p, node) != (program.main, 0):
+                rows[p, node] = self.candidates_at((p, node), coming.get((p, node), []), every, by_call[p][0])
+        for p in range(count):
+            if p != program.main:
+                self.bounds_at_exit(p, coming.get((p, "exit"), []), rows[p, "exit"])
+                del rows[p, "exit"][reached.MOST_CANDIDATES :]
+        if not self.kept(rows, arrivals, callers):
+            self.is_cut = True
+            return {}
+        return {place: reached.strongest(kept) for place, kept in rows.items() if kept}
+
+    def made(self, procs, rows):
+        """The arrivals of steps that are made of these procedures."""
+        work = Work(Finder(), "search")
+        return {p: [(s.target, reached.Arrival(s, case, self.program.width(p))) for s in self.steps_of(p, rows, work) for case in s.formula.cases] for p in procs}
+
+    def kept(self, rows, arrivals, callers):
+        """Drops rows, and makes steps anew where rows at exits fell; whether it comes to an end."""
+        drops, seen = {}, {p: {} for p in arrivals}
+        for _ in range(MOST_MAKINGS):
+            before = {place: len(it) for place, it in rows.items()}
+            if not self.dropped_by(rows, arrivals, drops, seen):
+                return False
+            stale = {p for place, it in rows.items() if place[1] == "exit" and len(it) < before[place] for p in callers[place[0]]}
+            if not stale:
+                return True
+            arrivals.update(self.made(stale, rows))
+            seen.update((p, {}) for p in stale)
+        return False
+
+    def dropped_by(self, rows, arrivals, drops, seen):
+        """Asks cases where rows were dropped at their begin, until none is dropped; whether the judgements are enough."""
+        changed = True
+        while changed:
+            changed = False
+            for p in sorted(arrivals):
+                for n, (target, arrival) in enumerate(arrivals[p]):
+                    now = drops.get(arrival.source, 0)
+                    if not rows.get(target) or seen[p].get(n) == now:
+                        continue
+                    if self.judgements < len(rows[target]):
+                        return False
+                    self.judgements -= len(rows[target])
+                    seen[p][n] = now
+                    given = rows.get(arrival.source, [])
+                    left = [row for row in rows[target] if arrival.keeps(row, given)]
+                    if len(left) < len(rows[target]):
+                        rows[target], changed = left, True
+                        drops[target] = drops.get(target, 0) + 1
+        return True
+
+    def candidates_at(self, point, coming, every, by_call):
+        voc = (leaves.full if point[1] else leaves.entry)(self.program, point[0])
+        self.pay(coming, len(directions(voc)))
+        return super().candidates_at(point, coming, every, by_call)
+
+    def bounds_at_exit(self, p, coming, rows):
+        self.pay(coming, 2 * len(exit_columns(self.program, p)))
+        super().bounds_at_exit(p, coming, rows)
+
+    def pay(self, coming, count):
+        for arrival in coming:
+            arrival.is_paid = count <= self.bounds
+            self.bounds -= count * arrival.is_paid
+            self.is_cut |= not arrival.is_paid
+
+
+reached.Reached = Search
+reached.greatest = lambda direction, coming: greatest(direction, coming) if all(it.is_paid for it in coming) else None
+report.show_note = lambda note, blocks: "note search beyond" if note[0] == "search" else show_note(note, blocks)
