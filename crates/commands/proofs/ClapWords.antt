@@ -1,6 +1,6 @@
 -- What clap makes of the words that are listed: it takes them, or tells that help or the version is
 -- asked for.
-use Rattle.std.proofs.Common.{refl, sym, subst, ap, codes, true, false, List, ℕ, [], ◌∷◌, Option, Some, None, ◌≡◌, ◌≢◌, ◌⊎◌, inl, inr, Bool, zero, suc, ◌≤◌, ◌-◌, ◌+◌, arith, option_map, true≢false, length, if◌then◌else◌, ◌∙◌}
+use Rattle.std.proofs.Common.{refl, sym, subst, ap, codes, true, false, List, ℕ, [], ◌∷◌, Option, Some, None, ◌≡◌, ◌≢◌, ◌⊎◌, inl, inr, Bool, zero, suc, ◌≤◌, ◌-◌, ◌+◌, arith, option_map, if◌then◌else◌, ◌∙◌}
 use Rattle.std.proofs.lemmas.Bool.{eqb-true, leb-true}
 use Rattle.std.specs.Prelude.{nat_le, ◌&&◌, ◌||◌, ◌==◌}
 use Rattle.std.proofs.lemmas.Slice.Eq.{bytes_eq-Decides}
@@ -25,7 +25,7 @@ use Rattle.c_lexer.specs.Kinds.{is_word_shape}
 use Rattle.std.specs.Char.{is_ascii_alphabetic}
 use Rattle.std.specs.Int.{is_in_range}
 use Rattle.std.specs.List.{list_all}
-use Rattle.commands.specs.Words.{cost_of, count_of, is_short_number, sample_of, work_named, work_of, work_with}
+use Rattle.commands.specs.Words.{cost_of, sample_of, work_named, work_of, work_with}
 use Rattle.commands.specs.Commands.{commands, matched_work, told_work}
 
 pub commands-simple : is_simple_and_free commands ≡ true

@@ -30,13 +30,11 @@ use Rattle.summary_cache.specs.Accepted.{Accepts}
 use Rattle.summary_cache.specs.Limits.{most_bytes}
 use Rattle.summary_cache.proofs.Complete.{accepted-once, not-refused}
 use Rattle.commands.specs.declared.reply.Reply.{Reply}
-use Rattle.commands.specs.declared.status.Status.{Status}
 use Rattle.commands.specs.declared.status.Status.TheVariants.{CostsTold, NoGlobal}
-use Rattle.commands.specs.declared.words.Work.TheVariants as work
 use Rattle.commands.specs.Bounded.{AreTrueBounds, IsBounded, IsShown}
 use Rattle.commands.specs.Cost.{AreCosts, HasGlobal, HasNoGlobal, IsCosted, IsGlobal, IsReplyToCost, IsToCost, IsUnknown, TellsCosts, costs_reply, costs_text, no_global_reply}
 use Rattle.commands.specs.Input.{IsInput}
-use Rattle.commands.specs.Posts.{HavePost, HavePosts, IsNumberIn, TellsCostsOf}
+use Rattle.commands.specs.Posts.{HavePosts, IsNumberIn, TellsCostsOf}
 use Rattle.commands.specs.Replies.{IsReply, IsReplyToRead, IsReplyToWork}
 use Rattle.commands.specs.Within.{OrRefused}
 use Rattle.commands.specs.Stated.{IsAnalysed}

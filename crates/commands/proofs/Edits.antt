@@ -1,14 +1,12 @@
 -- What the versions of an edited text say of executions: of the program of the last one, where that is
 -- accepted.
-use Rattle.std.proofs.Common.{◌≡◌, ◌≤◌, ◌⊎◌, inl, inr, ℕ, List, [], ◌∷◌, length, Option, None, Some, Result, Ok, refl, sym, ap, subst, ◌∙◌, arith}
+use Rattle.std.proofs.Common.{◌≡◌, ◌≤◌, ◌⊎◌, inl, inr, ℕ, List, [], ◌∷◌, length, Option, None, Some, Ok, refl, sym, ap, subst, ◌∙◌, arith}
 use Rattle.std.specs.Prelude.{◌-◌}
 use Rattle.std.specs.List.{last_or}
 use Rattle.farkas_check.specs.declared.answer.Answer.{Answer}
 use Rattle.syntax_tree.specs.declared.program.Program.{Program}
 use Rattle.report.specs.declared.blocks.Report.{Report}
-use Rattle.report.specs.Claims.{ClaimsAreMet, ReportCovers}
 use Rattle.report.specs.Text.{proved_count, text_of}
-use Rattle.wire.specs.declared.error.WireError.{WireError}
 use Rattle.summary_cache.specs.declared.last.Last.{Last}
 use Rattle.summary_cache.specs.declared.working.Counts.{Counts}
 use Rattle.summary_cache.specs.Accepted.{Accepts}

@@ -2,7 +2,7 @@
 --     proof-made       the report with points, where the answers lead to it
 --     never-refused    no question is refused by an oracle that declines none
 --     read-refused     an error of reading is one of proving
-use Rattle.std.proofs.Common.{◌≡◌, ◌≢◌, ℕ, List, [], ◌∷◌, ◌++◌, length, map, refl, sym, ap, subst, ◌∙◌, IsErrAnd}
+use Rattle.std.proofs.Common.{◌≡◌, ◌≢◌, ℕ, List, [], ◌∷◌, ◌++◌, map, refl, sym, ap, subst, ◌∙◌, IsErrAnd}
 use Rattle.std.specs.Prelude.{Err, IfOk, Ok, Result}
 use Rattle.farkas_check.specs.declared.answer.Answer.{Answer}
 use Rattle.farkas_check.specs.declared.question.Question.{Question}

@@ -1,6 +1,6 @@
 -- Rows at points that are true of a program under a rule are true of it: no execution knows the
 -- rule.
-use Rattle.std.proofs.Common.{◌≡◌, ℕ, List, [], ◌∷◌, ◌++◌, length}
+use Rattle.std.proofs.Common.{ℕ, List, [], ◌∷◌, ◌++◌, length}
 use Rattle.linear_terms.specs.declared.row.Row.{Row}
 use Rattle.syntax_tree.specs.declared.program.Program.{Program}
 use Rattle.syntax_tree.specs.Code.{Statement, Set, Any, Call, Guard, Check, If, Loop, Break, Continue, Return}
@@ -11,11 +11,10 @@ use Rattle.flow_graph.specs.FlowGraph.{Arc}
 use Rattle.flow_graph.specs.Stack.{Beginning, IsChain, StandsOver}
 use Rattle.flow_graph.specs.Walks.{EdgeRelates, Stands, Stride, Walks, WalksTo}
 use Rattle.point_induction.specs.Induction.{start_of}
-use Rattle.report.specs.declared.points.PointRows.{PointRows}
 use Rattle.report.specs.declared.points.RowsAt.{RowsAt}
 use Rattle.report.specs.declared.points.RowsAt.TheVariants as place
 use Rattle.point_reports.specs.declared.whole.PointReport.{PointReport}
-use Rattle.point_reports.specs.Claims.{AreAllMet, AreMetAt, AreTrueAt, AreTrueOfReturns, PointRowsAreMet}
+use Rattle.point_reports.specs.Claims.{AreAllMet, AreMetAt, AreTrueAt, AreTrueOfReturns}
 use Rattle.summary_cache.specs.Rules.{with_rule}
 use Rattle.summary_cache.proofs.Rules.{begins, claims_know_no_rule, returns, runs}
 

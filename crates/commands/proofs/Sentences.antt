@@ -2,8 +2,8 @@
 --     sound, sound-prove, sound-facets    a text all of whose assertions are proved
 --     sound-check    a certificate file that passes
 --     failing        an execution that ends at a failed assertion
-use Rattle.std.proofs.Common.{◌≡◌, ◌≢◌, ℕ, zero, suc, ◌+◌, ◌<◌, ◌≤◌, ◌⊎◌, inl, inr, true, false, cond, List, [], ◌∷◌, length, Option, Some, Result, Ok, Err, refl, sym, ap, subst, ◌∙◌, arith}
-use Rattle.std.specs.Prelude.{Bool, ◌-◌, ◌==◌, if◌then◌else◌, slice_get, map}
+use Rattle.std.proofs.Common.{◌≡◌, ◌≢◌, ℕ, zero, suc, ◌<◌, ◌≤◌, inl, inr, true, false, cond, List, [], ◌∷◌, length, Option, Some, Ok, refl, sym, ap, subst, ◌∙◌, arith}
+use Rattle.std.specs.Prelude.{Bool, ◌-◌, ◌==◌, if◌then◌else◌, slice_get}
 use Rattle.std.specs.List.{filter}
 use Rattle.std.proofs.lemmas.Bool.{eqb-true}
 use Rattle.std.proofs.lemmas.List.Sums.{count_by-le-length, length-filter}
@@ -11,8 +11,7 @@ use Rattle.std.proofs.lemmas.List.{length-map}
 use Rattle.std.proofs.lemmas.Slice.Eq.{bytes_eq-Decides}
 use Rattle.std.specs.Str.{bytes_eq}
 use Rattle.farkas_check.specs.declared.answer.Answer.{Answer}
-use Rattle.posing.specs.Posing.{Posed, Finished, Stuck}
-use Rattle.execution.specs.Execution.{Fails}
+use Rattle.posing.specs.Posing.{Finished, Stuck}
 use Rattle.syntax_tree.specs.declared.program.Program.{Program}
 use Rattle.replay.specs.declared.trace.TraceStop.{TraceStop}
 use Rattle.replay.specs.declared.trace.TraceStop.TheVariants as stop
@@ -34,12 +33,11 @@ use Rattle.wire.specs.declared.input.Input.{Input}
 use Rattle.wire.specs.Files.{certificate_of}
 use Rattle.wire.specs.Inputs.{input_of}
 use Rattle.commands.specs.declared.reply.Reply.{Reply}
-use Rattle.commands.specs.declared.status.Status.{Status}
-use Rattle.commands.specs.declared.status.Status.TheVariants.{AllProved, SomeUnproved, NoneFailed, SomeFailed, CheckPassed, CheckFailed}
+use Rattle.commands.specs.declared.status.Status.TheVariants.{AllProved, SomeUnproved, NoneFailed, SomeFailed, CheckPassed}
 use Rattle.commands.specs.declared.words.Work.{Work}
 use Rattle.commands.specs.declared.words.Work.TheVariants.{Analyse, Facets, Prove}
 use Rattle.commands.specs.Analyse.{IsReplyUnder, IsToAnalyse, IsToFacets, IsToProve, IsToReport}
-use Rattle.commands.specs.Check.{IsCheckOf, IsReplyToCheck, IsShown, IsToCheck, answers_of, compared_reply, finished_reply, posed_reply, rule_of}
+use Rattle.commands.specs.Check.{IsCheckOf, IsReplyToCheck, IsToCheck, compared_reply, finished_reply}
 use Rattle.commands.specs.Prove.{IsProved, IsReplyToProve, IsTrueProof}
 use Rattle.commands.specs.Replay.{IsReplyToReplay, IsToReplay, IsTraceOf}
 use Rattle.commands.specs.Replies.{IsReply, IsReplyToRead, IsReplyToWork}

@@ -7,7 +7,6 @@ use Rattle.std.specs.List.{last_or}
 use Rattle.std.specs.Prelude.{get_or}
 use Rattle.farkas_check.specs.declared.answer.Answer.{Answer}
 use Rattle.farkas_check.specs.declared.question.Question.{Question}
-use Rattle.farkas_check.specs.Asking.{Asking}
 use Rattle.finder.specs.Found.{IsFound}
 use Rattle.summary_cache.specs.declared.last.Last.{Last}
 use Rattle.summary_cache.specs.declared.working.Counts.{Counts}

@@ -2,7 +2,6 @@
 use Rattle.std.specs.Prelude.{◌≡◌, ℕ, ℤ, List, ◌++◌, map, Option, Some, slice_get}
 use Rattle.std.specs.Io.KnownBytes.{Appends}
 use Rattle.linear_terms.specs.declared.row.Case.{Case}
-use Rattle.linear_terms.specs.declared.row.Row.{Row}
 use Rattle.transition_formula.specs.Meaning.{HoldsCase}
 use Rattle.farkas_check.specs.declared.answer.Answer.TheVariants.{Yes}
 use Rattle.farkas_check.specs.declared.question.Question.TheVariants.{Infeasible}

@@ -3,7 +3,6 @@ use Rattle.std.specs.Prelude.{◌≡◌, ℕ, List, ◌++◌, ◌==◌, length, 
 use Rattle.std.specs.List.{flat_map, range_with_len}
 use Rattle.farkas_check.specs.declared.answer.Answer.{Answer}
 use Rattle.report.specs.declared.blocks.Report.{Report}
-use Rattle.summary_cache.specs.declared.refusal.Refusal.{Refusal}
 use Rattle.summary_cache.specs.declared.refusal.TextError.{TextError}
 use Rattle.summary_cache.specs.declared.refusal.TextError.TheVariants as errors
 use Rattle.summary_cache.specs.declared.working.Counts.{Counts}

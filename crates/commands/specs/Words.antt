@@ -1,5 +1,5 @@
 -- The words that the program accepts.
-use Rattle.std.specs.Prelude.{ℕ, List, [], ◌∷◌, Bool, true, false, ◌&&◌, ◌+◌, ◌*◌, ◌-◌, ◌==◌, Option, None, Some, codes, if◌then◌else◌, nat_le, nat_lt, length, option_map}
+use Rattle.std.specs.Prelude.{ℕ, List, [], ◌∷◌, Bool, true, false, ◌&&◌, Option, None, Some, codes, if◌then◌else◌, nat_le, length, option_map}
 use Rattle.std.specs.List.{list_all}
 use Rattle.std.specs.Str.{bytes_eq}
 use Rattle.std.specs.Str.Parse.{digits_value}

@@ -1,23 +1,18 @@
 -- The report with what holds at points is true.
-use Rattle.std.proofs.Common.{◌≡◌, ℕ, List, [], Option, Some, sym, ap, subst, ◌∙◌}
+use Rattle.std.proofs.Common.{◌≡◌, ℕ, List, [], Some, ap, subst, ◌∙◌}
 use Rattle.std.specs.Prelude.{IfOk, Result, Ok, Err, map, slice_get}
 use Rattle.std.proofs.lemmas.Option.{slice_get_within}
 use Rattle.items.proofs.Each.{each-more}
-use Rattle.syntax_tree.specs.declared.program.Proc.{Proc}
 use Rattle.syntax_tree.specs.declared.program.Program.{Program}
 use Rattle.syntax_tree.specs.Code.{Statement, Set, Any, Call, Guard, Check, If, Loop, Break, Continue, Return}
 use Rattle.syntax_tree.specs.WellFormed.{IsWellFormed, width_of}
 use Rattle.flow_graph.specs.FlowGraph.{Arc}
-use Rattle.transition_formula.specs.Transition.{Transition}
 use Rattle.leaf_cases.specs.Summaries.{KnowsCallee}
 use Rattle.leaf_cases.proofs.Graphs.{EdgeFits}
-use Rattle.vocabularies.specs.Procs.{IsProcOf}
-use Rattle.proc_summary.specs.Claims.{KnowsCallees}
 use Rattle.proc_summary.specs.Subject.{own_graph}
 use Rattle.context.proofs.WaysFit.{arcs-fit}
 use Rattle.point_induction.specs.Induction.{AreTrue}
 use Rattle.posing.specs.declared.error.WorkError.{WorkError}
-use Rattle.report.specs.declared.blocks.Judged.{Judged}
 use Rattle.report.specs.declared.blocks.ProcBlock.{ProcBlock}
 use Rattle.report.specs.Claims.{ReportCovers}
 use Rattle.point_rounds.specs.declared.round.PointRound.{PointRound}

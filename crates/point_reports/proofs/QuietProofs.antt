@@ -4,7 +4,7 @@ use Rattle.std.specs.Prelude.{if◌then◌else◌, slice_get}
 use Rattle.std.specs.List.{list_all}
 use Rattle.syntax_tree.specs.declared.program.Program.{Program}
 use Rattle.flow_graph.specs.FlowGraph.{CheckPlace, graph_of}
-use Rattle.posing.specs.Posing.{Posing, Done, ◌>>=◌}
+use Rattle.posing.specs.Posing.{Done}
 use Rattle.report.specs.declared.blocks.Judged.{Judged}
 use Rattle.report.specs.Text.{is_proved}
 use Rattle.point_rounds.specs.declared.round.PointRound.{PointRound}

@@ -13,7 +13,7 @@ use Rattle.proc_summary.proofs.Graphs.{proc-fit}
 use Rattle.point_induction.specs.Points.{heads_of}
 use Rattle.report.specs.declared.points.PointRows.{PointRows}
 use Rattle.report.specs.declared.points.RowsAt.{RowsAt}
-use Rattle.report.specs.declared.points.RowsAt.TheVariants.{Entry, Loop, Return}
+use Rattle.report.specs.declared.points.RowsAt.TheVariants.{Loop}
 use Rattle.point_rounds.specs.declared.table.PointTable.{PointTable}
 use Rattle.point_rounds.specs.Table.{rows_at}
 use Rattle.point_reports.specs.Parts.{AreHeadsOf}

@@ -1,4 +1,4 @@
-use Rattle.std.proofs.Common.{◌≡◌, refl, sym, subst, arith, length, rules}
+use Rattle.std.proofs.Common.{refl, sym, subst, length, rules}
 use Rattle.std.proofs.lemmas.Option.{slice_get_read}
 use Rattle.commands.specs.Cost.{IsCostOf}
 use Rattle.commands.proofs.Pairs.{AreSoFar, so-far-all, so-far-next, so-far-none}

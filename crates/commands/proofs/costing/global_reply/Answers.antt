@@ -1,4 +1,4 @@
-use Rattle.std.proofs.Common.{◌≡◌, rules, subst, sym}
+use Rattle.std.proofs.Common.{rules, subst}
 use Rattle.commands.specs.Posts.{HavePosts}
 use Rattle.commands.proofs.Costs.{posts-of, text-told}
 use Rattle.commands.proofs.costing.global_reply.Goals as goal

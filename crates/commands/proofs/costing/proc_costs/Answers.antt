@@ -1,4 +1,4 @@
-use Rattle.std.proofs.Common.{◌≡◌, List, refl, sym, subst, arith, length, rules}
+use Rattle.std.proofs.Common.{List, refl, sym, subst, length, rules}
 use Rattle.std.proofs.lemmas.Option.{slice_get_read}
 use Rattle.cost_bounds.specs.declared.cost.Cost.{Cost}
 use Rattle.report.specs.declared.blocks.ProcBlock.{ProcBlock}

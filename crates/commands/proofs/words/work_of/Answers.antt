@@ -1,9 +1,9 @@
-use Rattle.std.proofs.Common.{ap, subst, ◌≡◌, ◌≢◌, ◌⊎◌, inl, inr, ◌∙◌, map, string_bytes, List, [], ℕ, Option}
+use Rattle.std.proofs.Common.{ap, subst, ◌≡◌, ◌≢◌, ◌⊎◌, ◌∙◌, map, string_bytes, [], Option}
 use Rattle.std.specs.Prelude.{IfOk}
 use Rattle.commands.specs.declared.words.Work.{Work}
-use Rattle.clap.specs.Words.{App, FailsBy, HasKind, fault_of, is_simple, is_simple_and_free, kind_of, subcommand_of}
+use Rattle.clap.specs.Words.{HasKind, fault_of, is_simple, is_simple_and_free, subcommand_of}
 use Rattle.clap.specs.declared.error.kind.ErrorKind.TheVariants.{DisplayHelp, DisplayVersion, OutOfMemory}
-use Rattle.commands.specs.Commands.{commands, matched_work}
+use Rattle.commands.specs.Commands.{matched_work}
 use Rattle.commands.proofs.ClapWords.{commands-exact, commands-simple, name-met, name_of, refused-unlisted, request-told, words-fit}
 use Rattle.commands.proofs.words.work_of.Goals as goal
 

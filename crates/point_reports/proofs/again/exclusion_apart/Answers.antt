@@ -1,4 +1,4 @@
-use Rattle.std.proofs.Common.{◌≡◌, ◌∙◌, ◌<◌, get_or, length, refl, sym, ap, subst}
+use Rattle.std.proofs.Common.{◌∙◌, ◌<◌, get_or, length, refl, sym, ap, subst}
 use Rattle.execution.specs.Execution.{Fails}
 use Rattle.analysis.proofs.NotesApart.{IsSwapped, error_apart, value_apart}
 use Rattle.point_reports.proofs.OwnGraphs.{check-own, graph-there, heads-there, own-of}

@@ -1,4 +1,4 @@
-use Rattle.std.proofs.Common.{◌≡◌, refl, sym, ap}
+use Rattle.std.proofs.Common.{refl, sym, ap}
 use Rattle.posing.specs.Posing.{Done}
 use Rattle.posing.proofs.Following.{stops}
 use Rattle.posing.proofs.Steps.{at_end, error_first, in_other_words, value_first}

@@ -1,9 +1,9 @@
-use Rattle.std.proofs.Common.{◌≡◌, ◌++◌, ◌∙◌, ap}
+use Rattle.std.proofs.Common.{◌++◌, ◌∙◌, ap}
 use Rattle.flow_graph.specs.FlowGraph.{graph_of}
 use Rattle.point_induction.specs.Points.{heads_of}
 use Rattle.report.specs.declared.points.RowsAt.TheVariants.{Entry, Return}
 use Rattle.point_rounds.specs.Table.{rows_at, rows_at_exit}
-use Rattle.point_reports.specs.Blocks.{rows_at_loops, rows_of_proc, rows_told}
+use Rattle.point_reports.specs.Blocks.{rows_at_loops, rows_told}
 use Rattle.point_reports.proofs.ToldLists.{on_ok-more, parts-told}
 use Rattle.point_reports.proofs.blocks.add_proc.Goals as goal
 

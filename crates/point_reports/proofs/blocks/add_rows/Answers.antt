@@ -1,4 +1,4 @@
-use Rattle.std.proofs.Common.{◌≡◌, ◌++◌, ◌∷◌, [], ◌∙◌, ap, sym}
+use Rattle.std.proofs.Common.{◌++◌, ◌∷◌, [], ◌∙◌, ap, sym}
 use Rattle.report.specs.declared.points.PointRows.{PointRows}
 use Rattle.point_reports.proofs.ToldLists.{none-of, none-told, some-of, some-told}
 use Rattle.point_reports.proofs.blocks.add_rows.Goals as goal

@@ -1,4 +1,4 @@
-use Rattle.std.proofs.Common.{◌≡◌, ◌<◌, ◌++◌, ◌∙◌, length, refl, sym, ap, subst, arith}
+use Rattle.std.proofs.Common.{◌++◌, ◌∙◌, length, ap, arith}
 use Rattle.point_reports.specs.Blocks.{rows_from, rows_of_table}
 use Rattle.point_reports.proofs.ToldLists.{procs-end, procs-next, told-proc}
 use Rattle.point_reports.proofs.blocks.rows_of_table.Goals as goal

@@ -1,4 +1,4 @@
-use Rattle.std.proofs.Common.{◌≡◌, ◌∙◌, refl}
+use Rattle.std.proofs.Common.{◌∙◌, refl}
 use Rattle.analysis.proofs.NotesApart.{IsSwapped, error_apart, value_apart}
 use Rattle.point_reports.proofs.rounds.rounds_apart.Goals as goal
 

@@ -1,4 +1,4 @@
-use Rattle.std.proofs.Common.{◌≡◌, [], map, true, false, refl, sym, ap, subst, ◌∙◌}
+use Rattle.std.proofs.Common.{[], false, refl, sym, ap, subst, ◌∙◌}
 use Rattle.std.specs.Prelude.{if◌then◌else◌}
 use Rattle.posing.specs.Posing.{Done}
 use Rattle.posing.proofs.Steps.{at_end, in_other_words}

@@ -1,10 +1,8 @@
-use Rattle.std.proofs.Common.{◌≡◌, false, [], refl, sym, ap, ◌∙◌}
-use Rattle.std.specs.Prelude.{IfOk, Result, map}
+use Rattle.std.proofs.Common.{false, [], refl}
 use Rattle.posing.specs.Posing.{◌>>=◌}
 use Rattle.posing.proofs.Steps.{error_first, value_first}
 use Rattle.analysis.specs.Analysis.{found_report}
 use Rattle.analysis.proofs.Quiet.{quiet-kept}
-use Rattle.report.specs.Claims.{ReportCovers}
 use Rattle.point_search.specs.declared.found.FoundTable.{FoundTable}
 use Rattle.point_reports.specs.Proof.{points_if_open, proof_by_plan}
 use Rattle.point_reports.proofs.PointTruth.{report-covers}

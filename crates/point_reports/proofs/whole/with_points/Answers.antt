@@ -1,4 +1,4 @@
-use Rattle.std.proofs.Common.{◌≡◌, false, List, [], ◌++◌, map, refl, sym, ap, subst, ◌∙◌}
+use Rattle.std.proofs.Common.{false, List, [], ◌++◌, map, refl, sym, ap, subst, ◌∙◌}
 use Rattle.syntax_tree.specs.declared.program.Program.{Program}
 use Rattle.posing.specs.declared.note.Note.{Note}
 use Rattle.posing.specs.Posing.{Posing, Done, ◌>>=◌}
@@ -16,7 +16,6 @@ use Rattle.point_reports.specs.declared.whole.PointReport.{PointReport}
 use Rattle.point_reports.specs.Again.{judgements_again}
 use Rattle.point_reports.specs.Blocks.{rows_of_table}
 use Rattle.point_reports.specs.Claims.{PointRowsAreMet}
-use Rattle.point_reports.specs.Parts.{AreHeadsOf}
 use Rattle.point_reports.specs.Proof.{with_points}
 use Rattle.point_reports.proofs.JudgedAgain.{again-judged, again-refuted, ats-same}
 use Rattle.point_reports.proofs.OwnGraphs.{graphs-are, heads-are, inside-all}
