@@ -9,7 +9,7 @@ use Rattle.transition_formula.proofs.ColumnTests.{both_true, every_column_decide
 use Rattle.point_rows.specs.Reading.{AreOverColumns}
 
 -- one row more
-over-one : (columns : ℕ) (rows : List Row) (row : Row) → AreOverColumns columns rows → IsTrue (every_column (is_below columns 0) row.poly) → AreOverColumns columns (rows ++ row ∷ [])
+pub over-one : (columns : ℕ) (rows : List Row) (row : Row) → AreOverColumns columns rows → IsTrue (every_column (is_below columns 0) row.poly) → AreOverColumns columns (rows ++ row ∷ [])
 over-one columns [] row over one = both_true (every_column (is_below columns 0) row.poly) true one refl
 over-one columns (first ∷ rows) row over one = by (every_column (is_below columns 0) first.poly) over (over-one columns rows row)
   where

@@ -1,29 +1,18 @@
 -- Rows that are put at a place, one after another.
 use Rattle.std.proofs.Common.{◌≡◌, ◌+◌, ℕ, Bool, true, false, ◌&&◌, List, [], ◌∷◌, ◌++◌, refl, sym, ap, subst, ◌∙◌, arith, length}
 use Rattle.std.specs.Prelude.{IsTrue, not, nat_lt}
-use Rattle.std.specs.List.{AllByRecursion, list_all}
+use Rattle.std.specs.List.{AllByRecursion}
 use Rattle.std.proofs.lemmas.Bool.{and_parts, ltb-true}
 use Rattle.std.proofs.lemmas.List.{length-append}
 use Rattle.items.proofs.Each.{each-append}
 use Rattle.linear_terms.specs.declared.row.Row.{Row}
 use Rattle.transition_formula.specs.Transition.{every_column, is_below}
-use Rattle.transition_formula.proofs.ColumnTests.{both_true}
 use Rattle.point_rows.specs.Reading.{AreOverColumns}
+use Rattle.point_candidates.proofs.OverRows.{over-one}
 use Rattle.point_rounds.specs.Table.{ArePlaced}
 use Rattle.point_search.specs.Shapes.{ArePlacedAt, ArePlacedUnless}
 
 -- ---- rows
-
--- a row more of those over columns
-over-more : (columns : ℕ) (rows : List Row) (row : Row) → AreOverColumns columns rows → IsTrue (every_column (is_below columns 0) row.poly) → AreOverColumns columns (rows ++ row ∷ [])
-over-more columns [] row over one = both_true (every_column (is_below columns 0) row.poly) true one refl
-over-more columns (first ∷ rows) row over one = by (every_column (is_below columns 0) first.poly) over (over-more columns rows row)
-  where
-    by : (b : Bool) → IsTrue (b && list_all (λ (r : Row). every_column (is_below columns 0) r.poly) rows)
-        → (AreOverColumns columns rows → IsTrue (every_column (is_below columns 0) row.poly) → AreOverColumns columns (rows ++ row ∷ []))
-        → IsTrue (b && list_all (λ (r : Row). every_column (is_below columns 0) r.poly) (rows ++ row ∷ []))
-    by true more next = next more one
-    by false none next = none
 
 -- no rows are placed
 pub placed-none : (columns : ℕ) → ArePlaced columns []
@@ -44,7 +33,7 @@ unless-more none columns rows read new row may placed same means is e =
     record {
       placed = record {
         few = omega (arith, room, long, as_long);
-        over = subst (AreOverColumns columns) (sym e) (over-more columns rows row placed.placed.over parts.1);
+        over = subst (AreOverColumns columns) (sym e) (over-one columns rows row placed.placed.over parts.1);
       };
       no_rows = λ none_is. absurd (no none none_is all.0);
     }

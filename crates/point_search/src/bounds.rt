@@ -122,7 +122,7 @@ fn raise_tops(
     let own = arrival.from == arrival.to;
     if !left.takes_bounds(directions.len()) {
         for top in tops.iter_mut() {
-            *top = raised(*top, own, WholeTop::Endless);
+            *top = top_with(*top, own, WholeTop::Endless);
         }
         return Ok(());
     }
@@ -132,7 +132,7 @@ fn raise_tops(
     for (place, d) in directions.iter().enumerate() {
         if place < tops.len() && !is_endless(tops[place], own) {
             let top = top_at(alloc, posts, d, &mut search)?;
-            tops[place] = raised(tops[place], own, top);
+            tops[place] = top_with(tops[place], own, top);
         }
     }
     Ok(())
@@ -146,7 +146,8 @@ fn is_endless(top: DirectionTop, own: bool) -> bool {
     }
 }
 
-fn raised(top: DirectionTop, own: bool, by: WholeTop) -> DirectionTop {
+/// What a direction gets to, where arrivals from elsewhere, or from the place itself, get it so far.
+fn top_with(top: DirectionTop, own: bool, by: WholeTop) -> DirectionTop {
     if own {
         DirectionTop {
             others: top.others,

@@ -132,7 +132,7 @@ fn search_by(
     let question = Question::Infeasible(rows);
     let answer = answer_to(alloc, &question, &mut finder)?;
     let empty_by = match &answer {
-        Answer::Yes(by) => Some(numbers_by(alloc, own, given.as_slice(), by.as_slice())?),
+        Answer::Yes(by) => Some(reasons_by(alloc, own, given.as_slice(), by.as_slice())?),
         _ => None,
     };
     Ok(CaseSearch {
@@ -156,7 +156,7 @@ fn answer_to(
 }
 
 /// The numbers of the given rows whose multiplier is not 0.
-fn numbers_by(
+fn reasons_by(
     alloc: Global,
     own: usize,
     given: &[u32],
@@ -259,31 +259,31 @@ impl CaseSearch {
         posts: &[Poly],
         row: &Row,
     ) -> Result<bool, AllocError> {
-        Ok(self.shown_by(alloc, posts, row)?.is_some())
+        Ok(self.reasons_for(alloc, posts, row)?.is_some())
     }
 
     /// The numbers of given rows by which the row is true at all points, where its columns are the
     /// posts; none where it is not shown.
-    pub(crate) fn shown_by(
+    pub(crate) fn reasons_for(
         &mut self,
         alloc: Global,
         posts: &[Poly],
         row: &Row,
     ) -> Result<Option<Items<u32>>, AllocError> {
         match contraries_at(alloc, posts, row)? {
-            Some(rows) => self.all_refuted_by(alloc, rows),
+            Some(rows) => self.reasons_against_all(alloc, rows),
             None => Ok(None),
         }
     }
 
-    fn all_refuted_by(
+    fn reasons_against_all(
         &mut self,
         alloc: Global,
         rows: Items<Row>,
     ) -> Result<Option<Items<u32>>, AllocError> {
         let mut all = Items::new(alloc);
         for row in rows {
-            match self.refuted_by(alloc, row)? {
+            match self.reasons_against(alloc, row)? {
                 Some(by) => all.append(by)?,
                 None => return Ok(None),
             }
@@ -292,16 +292,20 @@ impl CaseSearch {
     }
 
     /// By which given rows the row, an inequality, is true at no point.
-    fn refuted_by(&mut self, alloc: Global, row: Row) -> Result<Option<Items<u32>>, AllocError> {
+    fn reasons_against(
+        &mut self,
+        alloc: Global,
+        row: Row,
+    ) -> Result<Option<Items<u32>>, AllocError> {
         match scale(alloc, &row.poly, -1) {
-            Ok(objective) => self.negative_by(alloc, objective),
+            Ok(objective) => self.reasons_for_negative(alloc, objective),
             Err(TermError::Memory) => Err(AllocError),
             Err(_lost) => Ok(None),
         }
     }
 
     /// By which given rows the objective is negative at all points.
-    fn negative_by(
+    fn reasons_for_negative(
         &mut self,
         alloc: Global,
         objective: Poly,
@@ -310,16 +314,16 @@ impl CaseSearch {
             return Ok(Some(by.clone()?));
         }
         let answer = self.answer(alloc, objective)?;
-        self.numbers_in(alloc, &answer)
+        self.reasons_in(alloc, &answer)
     }
 
     /// By which given rows a bound below 0 is shown; none where the answer is none.
-    fn numbers_in(&self, alloc: Global, answer: &Answer) -> Result<Option<Items<u32>>, AllocError> {
+    fn reasons_in(&self, alloc: Global, answer: &Answer) -> Result<Option<Items<u32>>, AllocError> {
         match answer {
             Answer::Bound { at, certs, .. } => match certs.as_slice().first() {
                 Some(cert) if *at < 0 => {
                     let given = self.given.as_slice();
-                    let by = numbers_by(alloc, self.own, given, cert.by.as_slice())?;
+                    let by = reasons_by(alloc, self.own, given, cert.by.as_slice())?;
                     Ok(Some(by))
                 }
                 _ => Ok(None),

@@ -211,7 +211,7 @@ fn is_shown(
     search: &mut CaseSearch,
     seen: &mut CaseSeen,
 ) -> Result<bool, AllocError> {
-    match search.shown_by(alloc, posts, row)? {
+    match search.reasons_for(alloc, posts, row)? {
         Some(by) => {
             seen.kept.push(KeptRow { number, by })?;
             Ok(true)
