@@ -1,9 +1,10 @@
 #!/usr/bin/env python3
 """Times the built program on the texts of `bench/texts`, and on made texts that grow: chains of procedures with nested loops, one
 loop over more and more variables that branches, loops one behind the other, loops inside each other, recursion over more and more
-globals, a ring of procedures each of which calls the next one, and procedures of many locals with loops of many branches. For each
-text: its lines, the cost of `analyse`, of `certify` and of `check` of what that printed, and the number of answers. Where a made
-text has twice the size of one before it, the growth of the costs is told as an exponent: 1 is linear, 2 quadratic.
+globals, a ring of procedures each of which calls the next one, procedures of many locals with loops of many branches, and procedures
+with loops of branches over shared globals, called in a loop, in which `prove` looks for rows at points. For each text: its lines, the
+cost of `analyse`, of `certify` and of `check` of what that printed, and the number of answers. Where a made text has twice the size
+of one before it, the growth of the costs is told as an exponent: 1 is linear, 2 quadratic.
 
 usage: time_programs.py [--instructions] [--beside WORD] [--only NAME] PROGRAM
 
@@ -12,7 +13,7 @@ With --beside the costs are those of `analyse` and of this word, which takes the
 A cost is in seconds of processor time; with --instructions it is in millions of instructions, as callgrind counts them. These are
 the same in each run, and take fifty times as long to count. --only takes the name of one text or of one family.
 """
-import glob, json, math, os, re, resource, subprocess, sys
+import glob, json, math, os, random, re, resource, subprocess, sys
 
 
 def chain(count):
@@ -77,9 +78,25 @@ def locals_(count):
     return text + f"int main(void) {{\n  int y = p{count - 1}(__VERIFIER_nondet_int());\n  assert(y >= 0);\n}}\n"
 
 
+def shared(count):
+    rng, names = random.Random(1), ["g%d" % k for k in range(6)]
+    text = "".join(f"int {it} = {rng.randrange(4)};\n" for it in names)
+    for k in range(count):
+        a, b, c, d = rng.sample(names, 4)
+        text += (f"int p{k}(int n) {{\n  int i = 0;\n  int s = 0;\n  while (i < n) {{\n    i++;\n    if ({a} < {b}) {{\n      {a} = {a} + {rng.randrange(1, 3)};\n"
+                 f"      s++;\n    }} else if ({c} > {rng.randrange(5)}) {{\n      {c}--;\n      s = s + {rng.randrange(3)};\n    }}\n")
+        if k and rng.random() < 0.6:
+            text += f"    if ({d} == {rng.randrange(3)}) s = s + p{rng.randrange(k)}({rng.choice(['i', 'n - i', d])});\n"
+        text += "  }\n  assert(s >= 0);\n  return s;\n}\n"
+    text += "int main(void) {\n  int t = 0;\n  int m = __VERIFIER_nondet_int();\n  assume(m >= 0);\n  while (t < m) {\n    t++;\n"
+    text += "".join(f"    {rng.choice(names)} = {rng.choice(names)} + p{k}(t);\n" for k in range(count))
+    return text + f"  }}\n  assert({rng.choice(names)} >= 0);\n  assert(t <= m);\n}}\n"
+
+
 MADE = [("chain", chain, (1, 2, 4, 8, 16, 32, 64)), ("variables", variables, (2, 4, 8, 12, 16)), ("loops", loops, (5, 10, 20, 40)),
         ("nested", nested, (2, 4, 6, 8, 10)), ("recursion", recursion, (2, 4, 8, 12, 16)),
-        ("ring", ring, (16, 32, 64, 128, 256)), ("locals", locals_, (1, 2, 4))]
+        ("ring", ring, (16, 32, 64, 128, 256)), ("locals", locals_, (1, 2, 4)),
+        ("shared", shared, (2, 3, 4, 5, 6, 7, 8))]
 TEXTS = os.path.join(os.path.dirname(os.path.abspath(__file__)), "texts")
 
 
