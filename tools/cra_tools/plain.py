@@ -72,10 +72,10 @@ def shown(story, has_colours):
     for it in story.judged:
         if not it.verdict.proved:
             lines += ["", *open_one(story, it, tree, paint)]
-    if story.reached:
+    if story.reached or story.search_note:
         lines += ["", paint("What ./cra prove knows at points, in every run from main:", "1")]
-        for place, rows in story.reached:
-            lines += [f"  {place}: {', '.join(rows)}"]
+        lines += [f"  {place}: {', '.join(rows)}" for place, rows in story.reached]
+        lines += [f"  note: {story.search_note}"] if story.search_note else []
     return [*lines, "", paint("What each procedure comes to:", "1"), *summaries(story, paint)]
 
 

@@ -49,6 +49,7 @@ class Report:
     verdicts: list = field(default_factory=list)
     entry_notes: list = field(default_factory=list)
     reached: list = field(default_factory=list)
+    is_cut: bool = False  # whether rows at points may be missing
     total: str = ""
 
 
@@ -82,6 +83,8 @@ def outer(made, now, line):
     elif line.startswith(("reached ", "returned ")):
         made.reached.append(Reached(line))
         return made.reached[-1]
+    elif line == "note search beyond":
+        made.is_cut = True
     elif line.startswith("note "):
         (now.notes if now else made.entry_notes).append(line[len("note ") :])
     elif line.startswith("total "):

@@ -53,6 +53,7 @@ class Story:
     judged: list = field(default_factory=list)
     procedures: list = field(default_factory=list)
     reached: list = field(default_factory=list)
+    search_note: str = ""
 
     @property
     def lines(self):
@@ -222,6 +223,7 @@ def ask_more(cra, story, open_ones, read_report):
     for it in open_ones:
         it.is_proved_by_rows = it.verdict.number in proved
     story.reached = [(it.place, [words.row_words(row, {}) for row in it.rows]) for it in report.reached]
+    story.search_note = words.note_words("search beyond") if report.is_cut else ""
 
 
 def made(cra, file, text, printed, read_report, tries, turns, seed):
