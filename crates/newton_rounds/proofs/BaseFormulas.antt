@@ -1,7 +1,6 @@
 -- Bases go from the pairs of their procedures.
-use Rattle.std.proofs.Common.{◌≡◌, ℕ, ◌≤◌, ◌<◌, List, [], ◌∷◌, ◌++◌, map, refl, sym, subst, arith}
-use Rattle.std.specs.Prelude.{All, Option}
-use Rattle.std.specs.List.{AllByRecursion}
+use Rattle.std.proofs.Common.{◌≤◌, [], refl, sym, subst, arith}
+use Rattle.std.specs.Prelude.{Option}
 use Rattle.items.proofs.Each.{each-map}
 use Rattle.linear_terms.specs.declared.row.Case.{Case}
 use Rattle.transition_formula.specs.Equating.{equated_formula, equated_case}

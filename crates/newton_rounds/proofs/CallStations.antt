@@ -1,8 +1,8 @@
 -- The stations of a call fit one after another, and their auxiliaries are few enough to be
 -- numbered.
-use Rattle.std.proofs.Common.{◌≡◌, ℕ, ◌+◌, ◌-◌, ◌<◌, ◌≤◌, ◌^◌, List, [], ◌∷◌, ◌++◌, length, map, refl, sym, ap, subst, ◌∙◌, append_assoc, arith}
+use Rattle.std.proofs.Common.{◌≡◌, ℕ, ◌+◌, ◌<◌, ◌≤◌, ◌^◌, List, [], ◌∷◌, ◌++◌, length, map, refl, subst, ◌∙◌, append_assoc, arith}
 use Rattle.std.specs.Prelude.{All}
-use Rattle.std.specs.List.{AllByRecursion, range_with_len}
+use Rattle.std.specs.List.{range_with_len}
 use Rattle.std.proofs.lemmas.List.Elements.{All-from_recursion, recursion_from_All}
 use Rattle.std.proofs.lemmas.List.FromFn.{length-range_with_len}
 use Rattle.items.proofs.Each.{each-more}
@@ -12,9 +12,9 @@ use Rattle.transition_formula.specs.Transition.{Transition, AreFew, IsTransition
 use Rattle.proc_summary.specs.Claims.{IsBetweenStates}
 use Rattle.proc_summary.specs.Summary.{exit_formula, exit_places}
 use Rattle.newton_rounds.specs.Pairs.{PairEnds, Stretch, along, callee_width, carrying_case, stations_of}
-use Rattle.newton_rounds.specs.Shapes.{AreEnds, IsStretchBetween}
+use Rattle.newton_rounds.specs.Shapes.{IsStretchBetween}
 use Rattle.newton_rounds.proofs.PairNumbers.{HasFew, both-few, few-more, sequence-few, states-few, states-of}
-use Rattle.newton_rounds.proofs.ExitColumns.{exit-few, pair-holds, places-below, range-below}
+use Rattle.newton_rounds.proofs.ExitColumns.{exit-few, places-below, range-below}
 use Rattle.newton_rounds.proofs.PostFormulas.{carrying-fits, exit-fits}
 use Rattle.newton_rounds.proofs.PairStates.{told-has, told-to}
 

@@ -1,10 +1,9 @@
 -- Chains of calls, each with the base of its end, go from the pairs of a member.
 use Rattle.std.proofs.Common.{◌≡◌, ℕ, zero, suc, ◌+◌, ◌-◌, ◌<◌, ◌≤◌, ◌^◌, Bool, true, false, length, List, [], ◌∷◌, ◌++◌, map, append_assoc, append-nil, refl, sym, ap, subst, ◌∙◌, arith}
 use Rattle.std.specs.Prelude.{All, IsTrue, get_or, slice_get, ◌==◌, not, if◌then◌else◌}
-use Rattle.std.specs.List.{AllByRecursion, filter, flat_map, list_all, range_with_len}
+use Rattle.std.specs.List.{AllByRecursion, filter, flat_map, range_with_len}
 use Rattle.std.specs.Option.{unwrap_or}
 use Rattle.std.proofs.lemmas.Bool.{eq-eqb}
-use Rattle.std.proofs.lemmas.Bool.Decides.{Decides-eqb}
 use Rattle.std.proofs.lemmas.Grind.{flat_map-append}
 use Rattle.std.proofs.lemmas.List.{get_or_default}
 use Rattle.std.proofs.lemmas.List.Elements.{All-from_recursion}
@@ -12,8 +11,6 @@ use Rattle.std.proofs.lemmas.List.FromFn.{length-range_with_len}
 use Rattle.std.proofs.lemmas.Option.{unwrap_or-slice_get}
 use Rattle.items.proofs.Each.{each-both, each-flat_map, each-map, each-more, each_from_test, test_from_each}
 use Rattle.linear_terms.specs.declared.row.Case.{Case}
-use Rattle.transition_formula.specs.Composition.{sequence_of}
-use Rattle.transition_formula.specs.Hiding.{hidden_case}
 use Rattle.transition_formula.specs.Posts.{case_with_entries, with_entries}
 use Rattle.transition_formula.specs.Transition.{AreFew, AreSolvable, IsSolvable, IsTransition, Transition, fits}
 use Rattle.transition_formula.proofs.FittedFormulas.{fits-solvable}

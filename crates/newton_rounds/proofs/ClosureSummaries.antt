@@ -1,10 +1,8 @@
 -- What a closure makes are summaries of the members.
-use Rattle.std.proofs.Common.{◌≡◌, ℕ, zero, suc, ◌+◌, ◌-◌, ◌<◌, ◌≤◌, length, map, List, [], ◌∷◌, ◌++◌, refl, sym, ap, subst, ◌∙◌, arith}
-use Rattle.std.specs.Prelude.{All, ◌&&◌, nat_le, Option, None, Some}
-use Rattle.std.specs.List.{AllByRecursion, AllZip, flat_map, list_all, range_with_len, slice_get}
+use Rattle.std.proofs.Common.{◌≡◌, ℕ, zero, suc, ◌+◌, ◌<◌, length, List, [], ◌∷◌, ◌++◌, refl, sym, ap, subst, ◌∙◌, arith}
+use Rattle.std.specs.Prelude.{◌&&◌, nat_le, Some}
+use Rattle.std.specs.List.{AllZip, flat_map, list_all, range_with_len, slice_get}
 use Rattle.std.proofs.lemmas.Bool.{leb-true}
-use Rattle.std.proofs.lemmas.List.Elements.{All-from_recursion}
-use Rattle.linear_terms.specs.declared.row.Case.{Case}
 use Rattle.transition_formula.specs.Transition.{Transition}
 use Rattle.transition_formula.proofs.ColumnTests.{both}
 use Rattle.path_expr.specs.declared.cell.Cell.{Cell}
@@ -15,7 +13,7 @@ use Rattle.checked_tree.specs.Evaluation.{evaluated_cells, settled_and_fitted}
 use Rattle.checked_tree.specs.Law.{AreFittedCells, IsBetweenEnds}
 use Rattle.checked_tree.proofs.Between.{settled_and_fitted-between}
 use Rattle.checked_tree.proofs.Cells.{cells-fit}
-use Rattle.newton_rounds.specs.Between.{AreBases, AreChained, AreChainsFrom, AreSummaries, GoesBetween, IsGroup, IsSummary}
+use Rattle.newton_rounds.specs.Between.{AreBases, AreChained, AreChainsFrom, AreSummaries, IsGroup, IsSummary}
 use Rattle.newton_rounds.specs.Closure.{chains_of, closure_at, closed_member, ends_at, exits_told, group_graph, losses_in_group_leaf, with_closed}
 use Rattle.newton_rounds.specs.Pairs.{PairEnds, Stretch}
 use Rattle.newton_rounds.proofs.CratesBelow.{fitted-few}

@@ -1,6 +1,6 @@
 -- The graph of a group can be evaluated.
-use Rattle.std.proofs.Common.{◌≡◌, ℕ, zero, suc, ◌+◌, ◌<◌, ◌≤◌, ◌^◌, length, map, drop, List, [], ◌∷◌, ◌++◌, append_assoc, refl, sym, ap, subst, ◌∙◌, arith}
-use Rattle.std.specs.Prelude.{All, IsTrue, Some, Option, None, get_or, slice_get}
+use Rattle.std.proofs.Common.{◌≡◌, ℕ, zero, suc, ◌+◌, ◌<◌, ◌≤◌, length, map, drop, List, [], ◌∷◌, ◌++◌, append_assoc, refl, sym, ap, subst, ◌∙◌, arith}
+use Rattle.std.specs.Prelude.{IsTrue, Some, get_or, slice_get}
 use Rattle.std.specs.List.{AllByRecursion}
 use Rattle.std.specs.Option.{option_map, unwrap_or}
 use Rattle.std.proofs.lemmas.List.{drop_more, length-map}
@@ -10,7 +10,6 @@ use Rattle.items.proofs.Each.{each-both, each-get, each-map, each-more, each_fro
 use Rattle.linear_terms.specs.declared.row.Case.{Case}
 use Rattle.transition_formula.specs.Transition.{AreSolvable, IsSolvable, IsTransition, Transition, fits}
 use Rattle.transition_formula.proofs.FittedFormulas.{fits-solvable}
-use Rattle.path_expr.specs.declared.cell.Cell.{Cell}
 use Rattle.path_expr.specs.declared.cell.Cell.TheVariants as known
 use Rattle.path_expr.specs.declared.link.Link.{Link}
 use Rattle.polyhedra.specs.Vocabulary.{Vocabulary}
@@ -18,8 +17,8 @@ use Rattle.checked_tree.specs.Graph.{leaf_at, link_at, nothing, vocabulary_at}
 use Rattle.checked_tree.specs.Law.{IsEnd, IsEvaluated, IsLeaf}
 use Rattle.newton_rounds.specs.declared.calls.GroupCall as own
 use Rattle.newton_rounds.specs.declared.calls.Sides.{Sides}
-use Rattle.newton_rounds.specs.Between.{AreChainsFrom, GoesBetween, IsGroup, IsMember, IsStretchIn}
-use Rattle.newton_rounds.specs.Closure.{ends_at, group_graph, group_leaf, group_link, no_pair, no_vocabulary, stretches_with}
+use Rattle.newton_rounds.specs.Between.{GoesBetween, IsGroup, IsStretchIn}
+use Rattle.newton_rounds.specs.Closure.{ends_at, group_graph, group_leaf, group_link, no_vocabulary, stretches_with}
 use Rattle.newton_rounds.specs.Pairs.{PairEnds, Stretch}
 use Rattle.newton_rounds.specs.Shapes.{plain_call, stretch_of}
 use Rattle.newton_rounds.proofs.CratesBelow.{some_at}

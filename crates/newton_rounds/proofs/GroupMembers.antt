@@ -1,20 +1,16 @@
 -- The members of a group, its calls and both sides of them.
 use Rattle.std.proofs.Common.{◌≡◌, ℕ, zero, suc, ◌+◌, ◌*◌, ◌<◌, ◌≤◌, ◌^◌, length, length-append, map, List, [], ◌∷◌, ◌++◌, refl, sym, ap, subst, ◌∙◌, arith}
-use Rattle.std.specs.Prelude.{All, Option, None, Some, option_to_list}
-use Rattle.std.specs.List.{AllByRecursion, Contains, flat_map}
-use Rattle.std.proofs.lemmas.List.{length-map}
-use Rattle.items.proofs.Each.{each-get, each-map, each-more}
-use Rattle.polyhedra.specs.Vocabulary.{Vocabulary}
+use Rattle.std.specs.Prelude.{Option, None, Some, option_to_list}
+use Rattle.std.specs.List.{AllByRecursion, flat_map}
 use Rattle.syntax_tree.specs.declared.program.Proc.{Proc}
 use Rattle.syntax_tree.specs.declared.program.Program.{Program}
 use Rattle.syntax_tree.specs.Code.{Statement, Set, Any, Call, Guard, Check, If, Loop, Break, Continue, Return}
-use Rattle.syntax_tree.specs.WellFormed.{IsProcFit, IsWellFormed}
+use Rattle.syntax_tree.specs.WellFormed.{IsWellFormed}
 use Rattle.flow_graph.specs.FlowGraph.{Arc}
-use Rattle.vocabularies.specs.Ends.{entry_of, entry_width, exit_width, pair_of, value_width}
+use Rattle.vocabularies.specs.Ends.{entry_of, entry_width, exit_width, pair_of}
 use Rattle.vocabularies.specs.Ends as ends
 use Rattle.vocabularies.proofs.Columns.{IsVocabulary-below}
 use Rattle.vocabularies.specs.Procs.{IsProcOf}
-use Rattle.checked_tree.specs.Law.{IsEnd}
 use Rattle.proc_summary.specs.Subject.{own_graph}
 use Rattle.proc_summary.proofs.Graphs.{few-arcs}
 use Rattle.newton_rounds.specs.declared.calls.GroupCall as own
@@ -22,10 +18,10 @@ use Rattle.newton_rounds.specs.declared.calls.Sides.{Sides}
 use Rattle.newton_rounds.specs.Between.{IsGroup, IsMember, IsStretchIn}
 use Rattle.newton_rounds.specs.Closure.{ends_at, ends_of_members, pair_ends, stretches_with}
 use Rattle.newton_rounds.specs.Members.{GroupCall, call_by, call_to, calls_from, calls_of, members_of, place_of}
-use Rattle.newton_rounds.specs.Pairs.{PairEnds, Stretch}
-use Rattle.newton_rounds.specs.Shapes.{FitCalls, IsCallIn, plain_call}
+use Rattle.newton_rounds.specs.Pairs.{PairEnds}
+use Rattle.newton_rounds.specs.Shapes.{FitCalls, IsCallIn}
 use Rattle.newton_rounds.proofs.CratesBelow.{proc-fit, some_at}
-use Rattle.newton_rounds.proofs.GroupCalls.{AreThere, ends-many, members-many}
+use Rattle.newton_rounds.proofs.GroupCalls.{AreThere, ends-many}
 use Rattle.newton_rounds.proofs.ChainFormulas.{member-at}
 use Rattle.newton_rounds.proofs.ExitColumns.{value-few}
 use Rattle.newton_rounds.proofs.Widths.{ends-are}

@@ -1,12 +1,12 @@
 -- Marks that spread along links.
-use Rattle.std.proofs.Common.{◌≡◌, ◌⊎◌, inl, inr, ℕ, zero, suc, ◌+◌, ◌<◌, ◌≤◌, Bool, true, false, not, ◌&&◌, ◌||◌, if◌then◌else◌, length, drop, get_or, set, replicate, List, [], ◌∷◌, ◌++◌, refl, sym, ap, subst, ◌∙◌, arith}
-use Rattle.std.specs.Prelude.{All, slice_get, Option, None, Some, unwrap_or}
+use Rattle.std.proofs.Common.{◌≡◌, ◌⊎◌, inl, inr, ℕ, zero, suc, ◌+◌, ◌<◌, ◌≤◌, Bool, true, false, not, ◌&&◌, ◌||◌, if◌then◌else◌, length, get_or, set, replicate, List, [], ◌∷◌, ◌++◌, refl, sym, ap, subst, ◌∙◌, arith}
+use Rattle.std.specs.Prelude.{slice_get, None, Some, unwrap_or}
 use Rattle.std.specs.Option.{is_some}
-use Rattle.std.specs.List.{Contains, AllByRecursion}
+use Rattle.std.specs.List.{AllByRecursion}
 use Rattle.std.proofs.lemmas.Bool.{false≢true, true≢false, or_parts}
-use Rattle.std.proofs.lemmas.List.{get_or-set_same, get_or-set_other, length-set, length-replicate}
+use Rattle.std.proofs.lemmas.List.{get_or-set_same, length-set, length-replicate}
 use Rattle.path_expr.specs.declared.link.Link.{Link}
-use Rattle.path_expr.specs.Walks.{IsGraph, IsWalk, Leads}
+use Rattle.path_expr.specs.Walks.{IsWalk, Leads}
 use Rattle.newton_rounds.specs.Reached.{IsReached, is_marked, TellsReached, grows, after_link, after_links, grow_over, with_marks, count_unmarked, IsMarked}
 
 -- ---- one mark more

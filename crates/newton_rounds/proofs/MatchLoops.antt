@@ -1,8 +1,8 @@
 -- Loops that put one value behind others for each element.
-use Rattle.std.proofs.Common.{◌≡◌, List, [], ◌∷◌, ◌++◌, append_assoc, append-nil, length, suc, refl, sym, ap, subst, ◌∙◌}
+use Rattle.std.proofs.Common.{◌≡◌, List, [], ◌∷◌, ◌++◌, append_assoc, append-nil, sym, ap, subst, ◌∙◌}
 use Rattle.std.specs.Prelude.{Result, IfOk, Ok, Err}
 use Rattle.std.specs.List.{AllByRecursion, AllZip}
-use Rattle.posing.specs.Posing.{Posing, Done, Noted, Asked, ◌>>=◌, each, Always}
+use Rattle.posing.specs.Posing.{Posing, Done, Noted, Asked, each, Always}
 use Rattle.posing.proofs.Paths.{always_bind, always_weaker}
 
 pub always_both : {A : Type 0} (P Q : A → Type 0) (p : Posing A) → Always P p → Always Q p → Always (λ x. P x × Q x) p

@@ -1,16 +1,13 @@
 -- Loops over the members with their formulas, and groups of few procedures.
 use Rattle.std.proofs.Common.{◌≡◌, ℕ, zero, suc, ◌+◌, ◌<◌, ◌≤◌, length, drop, List, [], ◌∷◌, ◌++◌, get_or, refl, sym, ap, subst, ◌∙◌, arith}
-use Rattle.std.specs.Prelude.{Option, None, Some}
-use Rattle.std.specs.List.{AllByRecursion, AllZip, Contains, slice_get}
+use Rattle.std.specs.List.{AllByRecursion, AllZip}
 use Rattle.std.proofs.lemmas.List.{drop_all, drop_more}
 use Rattle.items.proofs.Each.{each-any}
 use Rattle.linear_terms.specs.declared.row.Row.{Row}
 use Rattle.transition_formula.specs.Transition.{Transition}
 use Rattle.posing.specs.Posing.{Done, each, Always}
 use Rattle.posing.proofs.Paths.{always_bind, always_weaker}
-use Rattle.syntax_tree.specs.declared.program.Proc.{Proc}
 use Rattle.syntax_tree.specs.declared.program.Program.{Program}
-use Rattle.leaf_cases.specs.Conditions.{IsKnown}
 use Rattle.newton_rounds.specs.Between.{AreCandidates, AreSummaries, FitTable, IsRowOver, IsSummary}
 use Rattle.newton_rounds.specs.Candidates.{candidate_of}
 use Rattle.newton_rounds.specs.Close.{pairs_of, with_candidate}

@@ -1,10 +1,9 @@
 -- The row that holds where a candidate's row does not, in a case of one more unfolding: which
 -- columns it has.
-use Rattle.std.proofs.Common.{◌≡◌, ℕ, ◌+◌, ◌<◌, ◌≤◌, Bool, true, length, length-append, map, List, [], ◌∷◌, ◌++◌, pos, negsuc, refl, sym, ap, subst, ◌∙◌, arith}
-use Rattle.std.specs.Prelude.{All, IsTrue, Result, Ok, Err, Option, Some, None, option_to_list}
+use Rattle.std.proofs.Common.{◌≡◌, ℕ, ◌+◌, Bool, true, length, length-append, List, ◌++◌, pos, negsuc, refl, subst, ◌∙◌, arith}
+use Rattle.std.specs.Prelude.{All, IsTrue, Result, Ok, Err, option_to_list}
 use Rattle.std.specs.List.{list_all}
 use Rattle.std.proofs.lemmas.List.FromFn.{length-map-range_with_len}
-use Rattle.std.proofs.lemmas.List.Folds.{list_all-append}
 use Rattle.items.specs.Gives.{◌>>=◌}
 use Rattle.linear_terms.specs.declared.col.Col.{Col}
 use Rattle.linear_terms.specs.declared.col.Col.TheVariants.{At, Aux}
@@ -20,9 +19,9 @@ use Rattle.linear_terms.proofs.Columns.{multiple_of-each, sum_of_polys-each}
 use Rattle.transition_formula.specs.Hiding.{own_auxiliaries}
 use Rattle.transition_formula.specs.Loss.{answer_of}
 use Rattle.transition_formula.specs.Transition.{every_column, fits, is_below, IsSolvable}
-use Rattle.transition_formula.proofs.ColumnTests.{both, both_true, columns_from_test, every_column-Decides, more_columns, substituted-carries, test_from_columns}
+use Rattle.transition_formula.proofs.ColumnTests.{both_true, columns_from_test, every_column-Decides, more_columns, substituted-carries, test_from_columns}
 use Rattle.transition_formula.proofs.FittedFormulas.{fits-solvable}
-use Rattle.transition_formula.proofs.Fitting.{below-true, columns_pass, fitting, from_fitting, test_of_get, true-below}
+use Rattle.transition_formula.proofs.Fitting.{below-true, fitting, from_fitting, test_of_get, true-below}
 use Rattle.leaf_cases.specs.Guard.{columns_of}
 use Rattle.newton_rounds.specs.Candidates.{against, contrary}
 use Rattle.newton_rounds.specs.Shapes.{IsOverPairs}

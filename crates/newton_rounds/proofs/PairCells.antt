@@ -1,14 +1,13 @@
 -- What stands at the members of a group, from one of them on, leads to their pairs.
-use Rattle.std.proofs.Common.{◌≡◌, ℕ, ◌<◌, ◌≤◌, length, map, List, [], ◌∷◌, refl, sym, ap, subst, ◌∙◌, arith}
-use Rattle.std.specs.Prelude.{Option, None, Some, get_or, slice_get}
-use Rattle.std.specs.List.{AllByRecursion, range_with_len}
+use Rattle.std.proofs.Common.{◌≡◌, ℕ, ◌<◌, ◌≤◌, length, List, [], refl, sym, ap, subst, ◌∙◌, arith}
+use Rattle.std.specs.Prelude.{slice_get}
 use Rattle.std.specs.Option.{unwrap_or}
 use Rattle.std.proofs.lemmas.List.FromFn.{get_or-map-range_with_len}
 use Rattle.std.proofs.lemmas.List.{length-map}
 use Rattle.std.proofs.lemmas.Option.{unwrap_or-slice_get}
 use Rattle.items.proofs.Each.{each-more}
 use Rattle.linear_terms.specs.declared.row.Case.{Case}
-use Rattle.transition_formula.specs.Transition.{IsTransition, Transition}
+use Rattle.transition_formula.specs.Transition.{Transition}
 use Rattle.path_expr.specs.declared.cell.Cell.{Cell}
 use Rattle.path_expr.specs.declared.cell.Cell.TheVariants as known
 use Rattle.path_expr.specs.PathExpr.{PathExpr, Zero, One, Edge, Seq, Join, Star, InLanguage}
@@ -18,9 +17,9 @@ use Rattle.posing.specs.Posing.{Done, Always}
 use Rattle.posing.proofs.Paths.{always_any, always_bind}
 use Rattle.polyhedra.specs.Vocabulary.{Vocabulary}
 use Rattle.checked_tree.specs.Evaluation.{Made, cell_at, cell_of, cells_of, evaluated_cells, evaluation}
-use Rattle.checked_tree.specs.Graph.{Graph, vocabulary_at}
+use Rattle.checked_tree.specs.Graph.{Graph}
 use Rattle.checked_tree.specs.Law.{AreFittedCells, FitsCell, IsEvaluated}
-use Rattle.newton_rounds.specs.Between.{AreChainsFrom, GoesBetween, IsGroup, chain_to, width_at}
+use Rattle.newton_rounds.specs.Between.{AreChainsFrom, GoesBetween, IsGroup, width_at}
 use Rattle.newton_rounds.specs.Closure.{ends_at, group_graph, pair_cell}
 use Rattle.newton_rounds.specs.Pairs.{PairEnds, Stretch}
 use Rattle.newton_rounds.proofs.CratesBelow.{fitted-few, identity-fits, some_at}

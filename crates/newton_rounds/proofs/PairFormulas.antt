@@ -1,7 +1,6 @@
 -- The formula of a call goes from the caller's pair to the callee's, by cases with few auxiliaries.
-use Rattle.std.proofs.Common.{◌≡◌, ℕ, ◌+◌, ◌-◌, ◌<◌, ◌≤◌, ◌^◌, length, length-append, map, List, [], ◌∷◌, ◌++◌, refl, sym, ap, subst, ◌∙◌, arith}
-use Rattle.std.specs.Prelude.{All, IsTrue}
-use Rattle.std.specs.List.{AllByRecursion, range_with_len}
+use Rattle.std.proofs.Common.{◌≡◌, ℕ, ◌+◌, ◌≤◌, length, length-append, map, List, ◌++◌, refl, subst, ◌∙◌, arith}
+use Rattle.std.specs.List.{range_with_len}
 use Rattle.std.proofs.lemmas.List.FromFn.{length-range_with_len}
 use Rattle.items.proofs.Each.{each-map}
 use Rattle.linear_terms.specs.declared.row.Case.{Case}
@@ -13,14 +12,14 @@ use Rattle.transition_formula.proofs.Fitting.{sequence-fits}
 use Rattle.transition_formula.proofs.PostsAsEntries.{equated-fits}
 use Rattle.transition_formula.proofs.SomePosts.{with_posts-fits}
 use Rattle.leaf_cases.specs.Edges.{arguments_of}
-use Rattle.leaf_cases.specs.Guard.{columns_of, with_posts}
+use Rattle.leaf_cases.specs.Guard.{columns_of}
 use Rattle.leaf_cases.proofs.Arguments.{arguments-fit, arguments-sit}
 use Rattle.leaf_cases.proofs.EdgeFits.{few-sit}
 use Rattle.proc_summary.specs.Claims.{IsBetweenStates}
 use Rattle.proc_summary.specs.Summary.{exit_formula, exit_places}
 use Rattle.newton_rounds.specs.Between.{GoesBetween}
-use Rattle.newton_rounds.specs.Pairs.{PairEnds, Stretch, along, call_entry, callee_width, columns_from, entered_case, pair_formula, stations_of}
-use Rattle.newton_rounds.specs.Shapes.{AreEnds, IsStretchBetween}
+use Rattle.newton_rounds.specs.Pairs.{PairEnds, Stretch, along, callee_width, columns_from, pair_formula, stations_of}
+use Rattle.newton_rounds.specs.Shapes.{IsStretchBetween}
 use Rattle.newton_rounds.proofs.PairNumbers.{HasFew, few-more, sequence-few, states-few, states-of}
 use Rattle.newton_rounds.proofs.ExitColumns.{exit-few, pair-holds}
 use Rattle.newton_rounds.proofs.PostFormulas.{appended, carrying-fits, columns-covered, columns-length, exit-fits, fronted-few, posted-fits}

@@ -9,7 +9,6 @@ use Rattle.linear_terms.specs.declared.col.Col.{Col}
 use Rattle.linear_terms.specs.declared.col.Col.TheVariants.{At, Aux}
 use Rattle.linear_terms.specs.declared.error.TermError.{TermError}
 use Rattle.linear_terms.specs.declared.row.Kind.TheVariants.{Equal}
-use Rattle.linear_terms.specs.declared.row.Case.{Case}
 use Rattle.linear_terms.specs.Expressions.{◌⊟◌, column}
 use Rattle.linear_terms.specs.Polynomial.{Polynomial}
 use Rattle.transition_formula.specs.Composition.{row_of}

@@ -1,6 +1,6 @@
 -- The auxiliaries of formulas of pairs are few enough to be numbered.
-use Rattle.std.proofs.Common.{◌≡◌, ℕ, ◌+◌, ◌-◌, ◌<◌, ◌≤◌, ◌^◌, length, map, List, [], ◌∷◌, refl, subst, arith}
-use Rattle.std.specs.Prelude.{All, IsTrue, Option, None, Some, count_by}
+use Rattle.std.proofs.Common.{ℕ, ◌+◌, ◌-◌, ◌<◌, ◌≤◌, ◌^◌, map, List, [], ◌∷◌, refl, arith}
+use Rattle.std.specs.Prelude.{All, Option, None, Some}
 use Rattle.std.specs.List.{AllByRecursion, flat_map, list_all}
 use Rattle.std.specs.Option.{is_none}
 use Rattle.std.proofs.lemmas.List.Elements.{All-from_recursion}

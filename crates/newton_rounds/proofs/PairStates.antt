@@ -1,8 +1,8 @@
 -- What the formulas of a procedure's states say of its pairs.
-use Rattle.std.proofs.Common.{◌≡◌, ℕ, ◌+◌, ◌-◌, ◌<◌, ◌≤◌, ◌^◌, List, length, map, refl, sym, ap, subst, ◌∙◌, arith}
+use Rattle.std.proofs.Common.{◌≡◌, ◌+◌, ◌-◌, ◌<◌, ◌≤◌, ◌^◌, sym, subst, arith}
 use Rattle.std.specs.Prelude.{All, Option}
 use Rattle.linear_terms.specs.declared.row.Case.{Case}
-use Rattle.transition_formula.specs.Hiding.{hidden, hidden_case}
+use Rattle.transition_formula.specs.Hiding.{hidden}
 use Rattle.transition_formula.specs.Transition.{Transition, IsTransition}
 use Rattle.transition_formula.proofs.HiddenColumns.{hidden-fits}
 use Rattle.transition_formula.proofs.PostsAsEntries.{raised-fits}
@@ -11,7 +11,7 @@ use Rattle.proc_summary.specs.Summary.{exit_formula, exit_places}
 use Rattle.newton_rounds.specs.Pairs.{PairEnds, entry_told}
 use Rattle.newton_rounds.specs.Shapes.{AreEnds}
 use Rattle.newton_rounds.proofs.PairNumbers.{HasFew, few-more, hidden-few, hiding-few, states-few, states-of}
-use Rattle.newton_rounds.proofs.ExitColumns.{pair-holds, places-below}
+use Rattle.newton_rounds.proofs.ExitColumns.{places-below}
 
 module _ (m : PairEnds) (ends : AreEnds m) (f : Option Transition) (fits : FitsIf m.ends.full.columns f) where
   abbrev whole : Transition

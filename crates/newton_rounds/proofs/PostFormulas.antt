@@ -1,7 +1,7 @@
 -- Formulas with more or other posts fit between their columns.
-use Rattle.std.proofs.Common.{◌≡◌, ℕ, zero, suc, ◌+◌, ◌-◌, ◌<◌, ◌≤◌, Bool, true, length, length-append, length-drop, map, take, drop, List, [], ◌∷◌, ◌++◌, Option, None, Some, refl, sym, ap, subst, ◌∙◌, arith}
+use Rattle.std.proofs.Common.{◌≡◌, ℕ, zero, suc, ◌+◌, ◌-◌, ◌≤◌, Bool, true, length, length-append, length-drop, map, take, drop, List, [], ◌∷◌, ◌++◌, Option, None, Some, refl, ◌∙◌, arith}
 use Rattle.std.specs.Prelude.{IsTrue, slice_set}
-use Rattle.std.specs.List.{AllByRecursion, list_all, range_with_len}
+use Rattle.std.specs.List.{AllByRecursion, list_all}
 use Rattle.std.proofs.lemmas.List.{length-take-le, length-set}
 use Rattle.std.proofs.lemmas.List.Folds.{list_all-append}
 use Rattle.std.proofs.lemmas.List.FromFn.{length-map-range_with_len}
@@ -9,8 +9,8 @@ use Rattle.linear_terms.specs.declared.col.Col.TheVariants.{At, Aux}
 use Rattle.linear_terms.specs.declared.row.Case.{Case}
 use Rattle.linear_terms.specs.Polynomial.{Polynomial, column_of}
 use Rattle.transition_formula.specs.Transition.{every_column, fits, is_below, IsTransition}
-use Rattle.transition_formula.proofs.ColumnTests.{both, both_true, test_from_columns}
-use Rattle.transition_formula.proofs.Fitting.{Fitting, below-true, columns_pass, fitting, from_fitting, test_of_get}
+use Rattle.transition_formula.proofs.ColumnTests.{both, both_true}
+use Rattle.transition_formula.proofs.Fitting.{Fitting, below-true, columns_pass, fitting, from_fitting}
 use Rattle.transition_formula.proofs.PostsAsEntries.{raised-fits}
 use Rattle.leaf_cases.specs.Edges.{posts_with_value}
 use Rattle.leaf_cases.specs.Guard.{with_posts}

@@ -1,5 +1,5 @@
 -- What a round keeps: rows over the pairs of members, of which some may be dropped.
-use Rattle.std.proofs.Common.{◌≡◌, ℕ, zero, suc, ◌+◌, ◌-◌, ◌<◌, ◌≤◌, Bool, true, false, length, length-append, drop, map, List, [], ◌∷◌, ◌++◌, get_or, refl, sym, ap, subst, ◌∙◌, arith}
+use Rattle.std.proofs.Common.{◌≡◌, ℕ, zero, suc, ◌+◌, ◌<◌, ◌≤◌, Bool, true, false, length, length-append, drop, map, List, [], ◌∷◌, ◌++◌, get_or, refl, sym, ap, subst, ◌∙◌, arith}
 use Rattle.std.specs.Prelude.{IsTrue, Result, Ok, Err, IsErrAnd, Option, None, Some, not, if◌then◌else◌, ◌↔◌}
 use Rattle.std.specs.List.{AllByRecursion, AllZip, cons_option, filter_map, flat_map, slice_get}
 use Rattle.std.proofs.lemmas.Bool.{false≢true}

@@ -28,7 +28,6 @@ use Rattle.farkas_check.specs.declared.answer.Answer.TheVariants as answer
 use Rattle.farkas_check.specs.declared.answer.Limit.{Limit}
 use Rattle.farkas_check.specs.declared.question.Question.TheVariants.{Infeasible}
 use Rattle.farkas_check.specs.Columns.{columns}
-use Rattle.farkas_check.specs.Meaning.{IsTrueAnswer}
 use Rattle.posing.specs.declared.note.Witness.{Witness}
 use Rattle.posing.specs.declared.note.Witness.TheVariants as witness
 use Rattle.posing.specs.Posing.{◌>>=◌, each, AlwaysPassing, IsPassing}

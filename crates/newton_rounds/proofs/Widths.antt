@@ -1,5 +1,5 @@
 -- How many columns the ends of a procedure have, and what stands at the nodes of its graph.
-use Rattle.std.proofs.Common.{◌≡◌, ℕ, ◌+◌, ◌-◌, ◌<◌, ◌≤◌, List, length, refl, sym, ap, subst, ◌∙◌, arith}
+use Rattle.std.proofs.Common.{◌≡◌, ℕ, ◌-◌, ◌<◌, List, refl, ap, ◌∙◌, arith}
 use Rattle.std.specs.Prelude.{Option, None, Some}
 use Rattle.std.specs.List.{slice_get}
 use Rattle.std.specs.Option.{unwrap_or}
@@ -14,7 +14,6 @@ use Rattle.syntax_tree.specs.WellFormed.{IsWellFormed, width_of}
 use Rattle.flow_graph.specs.declared.parts.Graph.{Graph}
 use Rattle.flow_graph.specs.FlowGraph.{FlowGraph, body_of, exit_of, flow_of, graph_of}
 use Rattle.flow_graph.specs.Plain.{plain}
-use Rattle.transition_formula.specs.Composition.{identity_of}
 use Rattle.transition_formula.specs.Transition.{Transition}
 use Rattle.polyhedra.specs.Vocabulary.{Vocabulary}
 use Rattle.vocabularies.specs.Ends.{entry_of, full_of, pair_of}

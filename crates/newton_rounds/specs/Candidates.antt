@@ -1,6 +1,6 @@
 -- Candidates: rows over the pairs of entry and exit that may hold of all activations, and rounds
 -- that drop those that one more unfolding does not show.
-use Rattle.std.specs.Prelude.{ℕ, suc, ◌+◌, Bool, true, false, if◌then◌else◌, List, [], ◌∷◌, ◌++◌, Option, None, Some, Result, Ok, Err, length, map, option_to_list}
+use Rattle.std.specs.Prelude.{ℕ, suc, Bool, true, false, if◌then◌else◌, List, [], ◌∷◌, ◌++◌, Option, None, Some, Result, Ok, length, map, option_to_list}
 use Rattle.std.specs.List.{filter_map, flat_map, range_with_len}
 use Rattle.std.specs.Option.{unwrap_or}
 use Rattle.items.specs.Gives as gives
@@ -10,7 +10,6 @@ use Rattle.linear_terms.specs.declared.row.Case.{Case}
 use Rattle.linear_terms.specs.declared.row.Kind.TheVariants.{AtMost}
 use Rattle.linear_terms.specs.Expressions.{negation}
 use Rattle.linear_terms.specs.Operations.{substituted_polynomial}
-use Rattle.linear_terms.specs.Polynomial.{Polynomial}
 use Rattle.linear_terms.specs.Replacement.{put_in}
 use Rattle.farkas_check.specs.declared.answer.Answer.{Answer}
 use Rattle.farkas_check.specs.declared.answer.Answer.TheVariants as answer
@@ -19,7 +18,6 @@ use Rattle.farkas_check.specs.declared.question.Question.TheVariants.{Infeasible
 use Rattle.farkas_check.specs.Columns.{columns}
 use Rattle.syntax_tree.specs.declared.program.Proc.{Proc}
 use Rattle.syntax_tree.specs.declared.program.Program.{Program}
-use Rattle.transition_formula.specs.declared.loss.Loss.{Loss}
 use Rattle.transition_formula.specs.Hiding.{hidden, own_auxiliaries}
 use Rattle.transition_formula.specs.Loss.{answer_of, losses_of}
 use Rattle.transition_formula.specs.Posts.{with_entries}
@@ -45,7 +43,7 @@ use Rattle.newton_rounds.specs.declared.findings.Judgements.{Judgements}
 use Rattle.newton_rounds.specs.declared.findings.RoundEnd.{RoundEnd}
 use Rattle.newton_rounds.specs.Members.{members_of, with_table}
 use Rattle.newton_rounds.specs.Pairs.{PairEnds}
-use Rattle.newton_rounds.specs.Closure.{ends_at, pair_ends, with_places_from}
+use Rattle.newton_rounds.specs.Closure.{pair_ends, with_places_from}
 
 -- ---- a candidate
 

@@ -1,6 +1,6 @@
 -- The closure of a table: formulas of the members by one more unfolding of each chain of calls,
 -- where the group's calls on the way are read by the table.
-use Rattle.std.specs.Prelude.{ℕ, ◌+◌, ◌==◌, List, [], ◌∷◌, ◌++◌, false, not, Option, None, Some, length, map, slice_get}
+use Rattle.std.specs.Prelude.{ℕ, ◌+◌, ◌==◌, List, [], ◌∷◌, ◌++◌, false, not, Option, length, map, slice_get}
 use Rattle.std.specs.List.{filter, flat_map, range_with_len}
 use Rattle.std.specs.Option.{unwrap_or}
 use Rattle.path_expr.specs.declared.cell.Cell.{Cell}

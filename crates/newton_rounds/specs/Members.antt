@@ -1,5 +1,5 @@
 -- The procedures of a recursive group, and the calls between them.
-use Rattle.std.specs.Prelude.{◌≡◌, ℕ, ◌==◌, ◌+◌, Bool, false, List, [], ◌∷◌, ◌++◌, Option, None, Some, length, map, slice_get, slice_set, option_to_list, if◌then◌else◌}
+use Rattle.std.specs.Prelude.{ℕ, ◌==◌, ◌+◌, Bool, false, List, [], ◌∷◌, ◌++◌, Option, None, Some, map, slice_get, slice_set, option_to_list, if◌then◌else◌}
 use Rattle.std.specs.List.{AllByRecursion, Contains, filter, flat_map}
 use Rattle.std.specs.Option.{is_some, option_map}
 use Rattle.path_expr.specs.Walks.{IsWalk}

@@ -1,6 +1,6 @@
 -- Pairs of entry and exit: a formula from the entry and exit of a procedure to those of a procedure
 -- that it calls, for each call of the group; and one for the activations that make no such call.
-use Rattle.std.specs.Prelude.{ℕ, ◌+◌, List, [], ◌∷◌, ◌++◌, Option, None, Some, length, map, take, drop}
+use Rattle.std.specs.Prelude.{ℕ, ◌+◌, List, [], ◌∷◌, ◌++◌, Option, length, map, take, drop}
 use Rattle.std.specs.List.{range_with_len}
 use Rattle.linear_terms.specs.declared.col.Col.TheVariants.{At, Aux}
 use Rattle.linear_terms.specs.declared.row.Case.{Case}

@@ -13,7 +13,7 @@ use Rattle.proc_summary.specs.Summary.{exit_formula}
 use Rattle.linear_terms.specs.declared.row.Case.{Case}
 use Rattle.linear_terms.specs.declared.row.Row.{Row}
 use Rattle.syntax_tree.specs.declared.limits.TheConstants.{MOST_OPERATORS}
-use Rattle.syntax_tree.specs.WellFormed.{all_columns_below, into_fits, joint_operators}
+use Rattle.syntax_tree.specs.WellFormed.{all_columns_below, joint_operators}
 use Rattle.transition_formula.specs.declared.solving.Solved.{Solved}
 use Rattle.transition_formula.specs.declared.solving.Solved.TheVariants.{Kept, False}
 use Rattle.transition_formula.specs.Transition.{Transition, every_column, fits, is_below}

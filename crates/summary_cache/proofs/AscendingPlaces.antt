@@ -16,7 +16,7 @@ use Rattle.syntax_tree.specs.declared.program.Program.{Program}
 use Rattle.syntax_tree.specs.declared.tree.Item.{Item}
 use Rattle.syntax_tree.specs.declared.tree.Item.TheVariants as item
 use Rattle.syntax_tree.specs.SourceLine as line
-use Rattle.syntax_tree.specs.SourceLine.{SourceLine, SourceLines, lines_from}
+use Rattle.syntax_tree.specs.SourceLine.{SourceLine, lines_from}
 use Rattle.typing.specs.Calls.{if_assertion, listed_if}
 use Rattle.typing.specs.Elaborated.{checks_in}
 use Rattle.typing.specs.Lines.{all_checks_of, checks_of}

@@ -1,5 +1,5 @@
 -- Neither the shape of a program nor an execution knows the rule by which iterations are summed up.
-use Rattle.std.proofs.Common.{◌≡◌, ℕ, ◌+◌, ◌&&◌, Bool, List, [], ◌∷◌, Option, Some, Ok, length, refl, sym, ap, ◌∙◌, arith}
+use Rattle.std.proofs.Common.{◌≡◌, ℕ, ◌+◌, ◌&&◌, Bool, List, [], ◌∷◌, Option, Some, Ok, length, refl, sym, ap, ◌∙◌}
 use Rattle.std.specs.Prelude.{None, nat_le}
 use Rattle.std.proofs.lemmas.Bool.{and_parts, leb-true}
 use Rattle.syntax_tree.specs.declared.program.Proc.{Proc}

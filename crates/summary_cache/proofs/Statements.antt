@@ -3,7 +3,7 @@
 --     quiet-ended, quiet-stopped     what a call with a log of its own says of the end of an analysis
 --     submitted, unanswered          what a session says of the text
 --     first-submitted, first-unanswered    and where it has accepted none before
-use Rattle.std.proofs.Common.{◌≡◌, ℕ, Bool, true, false, List, [], ◌∷◌, ◌++◌, length, Option, None, Some, refl, sym, ap, subst, ◌∙◌, IsErrAnd}
+use Rattle.std.proofs.Common.{◌≡◌, ℕ, Bool, List, [], ◌∷◌, ◌++◌, length, Option, None, Some, refl, sym, ap, subst, ◌∙◌, IsErrAnd}
 use Rattle.std.specs.Prelude.{Result, Ok, Err}
 use Rattle.std.proofs.lemmas.List.{append-nil, append_assoc}
 use Rattle.farkas_check.specs.declared.answer.Answer.{Answer}
@@ -17,7 +17,7 @@ use Rattle.posing.specs.declared.error.WorkError.TheVariants.{Refused, Memory}
 use Rattle.posing.specs.declared.log.Log.{Log}
 use Rattle.posing.specs.Follows.{Follows, IsGood, Leads, with_all}
 use Rattle.posing.specs.Posing.{Path, Posing, Done, Asked, ◌>>=◌}
-use Rattle.posing.proofs.Paths.{path_bind, path_into, path_map, path_then}
+use Rattle.posing.proofs.Paths.{path_bind, path_into, path_map}
 use Rattle.report.specs.declared.blocks.Report.{Report}
 use Rattle.report.specs.Claims.{ClaimsAreMet, PointsMeetRows, ReportCovers}
 use Rattle.analysis.specs.declared.found.Found.{Found}
@@ -28,13 +28,12 @@ use Rattle.analysis.specs.Found.{findings_by_plan}
 use Rattle.analysis.specs.Plan.{IsPlan}
 use Rattle.analysis.proofs.OnePlan.{plan-one}
 use Rattle.analysis.proofs.Quiet.{IsQuiet, ended-quiet, quiet-path}
-use Rattle.named_limits.specs.Named.{LimitsAreNamed}
 use Rattle.named_limits.proofs.LeadingQuestions.{any-leads}
 use Rattle.named_limits.proofs.Shares.{analysis-names}
 use Rattle.kept_groups.specs.declared.kept.KeptGroups.{KeptGroups}
 use Rattle.kept_groups.specs.declared.kept.KeptPart.{KeptPart}
 use Rattle.kept_groups.specs.declared.over.FoundParts.{FoundParts}
-use Rattle.kept_groups.specs.Coming.{AreCome, answers_asked, count_made}
+use Rattle.kept_groups.specs.Coming.{AreCome, answers_asked}
 use Rattle.kept_groups.specs.Kept.{AreKept, AreKeptIf, Anything, answers_in, findings_by_kept}
 use Rattle.kept_groups.specs.Outcomes.{CameOver, FindsOver, IsDeclinedOver, IsFoundOver}
 use Rattle.kept_groups.proofs.PartAnswers.{all_come-weaker, declined-leads, declined-next, none-kept, parts-kept, parts-lead}
@@ -42,7 +41,7 @@ use Rattle.summary_cache.specs.declared.last.Last.{Last}
 use Rattle.summary_cache.specs.declared.working.Counts.{Counts}
 use Rattle.summary_cache.specs.Counted.{counts_of}
 use Rattle.summary_cache.specs.First.{IsFirstCause, IsUnanswered, IsWorked}
-use Rattle.summary_cache.specs.Kept.{AreAllowed, Kept, last_analysis, answers_for, groups_of}
+use Rattle.summary_cache.specs.Kept.{AreAllowed, Kept, last_analysis, groups_of}
 use Rattle.summary_cache.specs.Rules.{ClaimsKnowNoRule, with_rule}
 use Rattle.summary_cache.specs.Stated.{IsAnalysedBy, IsPlanned, analysis_of, places_of}
 use Rattle.summary_cache.proofs.Complete.{accepted-once}

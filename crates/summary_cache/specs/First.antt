@@ -1,5 +1,5 @@
 -- What comes of a text that is submitted to a session which has accepted none.
-use Rattle.std.specs.Prelude.{◌≡◌, ℕ, List, [], length, Option, None, Some, Result, Ok, Err}
+use Rattle.std.specs.Prelude.{◌≡◌, ℕ, List, length, Option, None, Some, Result, Ok, Err}
 use Rattle.farkas_check.specs.Asking.{Asking}
 use Rattle.syntax_tree.specs.declared.program.Program.{Program}
 use Rattle.posing.specs.Follows.{with_all}

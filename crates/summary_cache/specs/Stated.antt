@@ -1,5 +1,5 @@
 -- The stated analysis of a text, under a rule.
-use Rattle.std.specs.Prelude.{◌≡◌, ℕ, List, [], map, false}
+use Rattle.std.specs.Prelude.{◌≡◌, ℕ, List, [], map}
 use Rattle.farkas_check.specs.declared.answer.Answer.{Answer}
 use Rattle.farkas_check.specs.declared.question.Question.{Question}
 use Rattle.syntax_tree.specs.declared.program.Program.{Program}

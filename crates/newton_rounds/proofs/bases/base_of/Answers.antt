@@ -1,4 +1,4 @@
-use Rattle.std.proofs.Common.{◌≡◌, ◌∙◌, ap, subst, sym, refl}
+use Rattle.std.proofs.Common.{◌∙◌, ap, subst, sym, refl}
 use Rattle.posing.specs.Logs.{loss_notes}
 use Rattle.posing.proofs.Following.{stops}
 use Rattle.posing.proofs.Steps.{at_end, error_first, in_other_words, notes_first, value_first}

@@ -1,4 +1,4 @@
-use Rattle.std.proofs.Common.{◌≡◌, [], ◌∷◌, ◌++◌, ◌+◌, ◌∙◌, List, append-nil, append_assoc, map, drop, get_or, sym, ap, subst, refl}
+use Rattle.std.proofs.Common.{[], ◌∷◌, ◌++◌, ◌+◌, ◌∙◌, List, append-nil, append_assoc, map, drop, get_or, sym, ap, subst, refl}
 use Rattle.std.proofs.lemmas.List.{drop_all}
 use Rattle.transition_formula.specs.Transition.{Transition}
 use Rattle.posing.specs.Follows.{Leads}

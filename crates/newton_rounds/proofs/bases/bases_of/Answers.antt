@@ -1,4 +1,4 @@
-use Rattle.std.proofs.Common.{◌≡◌, ◌∙◌, sym, subst}
+use Rattle.std.proofs.Common.{◌∙◌, sym, subst}
 use Rattle.leaf_cases.specs.Conditions.{AreKnown}
 use Rattle.newton_rounds.proofs.KnownTables.{untabled-known}
 use Rattle.newton_rounds.proofs.ReadyGroups.{procs-known}

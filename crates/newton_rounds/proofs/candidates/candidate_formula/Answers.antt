@@ -1,9 +1,8 @@
-use Rattle.std.proofs.Common.{◌≡◌, ◌∷◌, [], ◌++◌, ◌∙◌, List, ℕ, sym, ap, subst, refl}
+use Rattle.std.proofs.Common.{◌≡◌, ◌∷◌, [], ◌++◌, ◌∙◌, List, ℕ, sym, ap, subst}
 use Rattle.std.specs.Prelude.{IfOk}
 use Rattle.linear_terms.specs.declared.row.Case.{Case}
 use Rattle.transition_formula.specs.Transition.{IsTransition}
 use Rattle.newton_rounds.specs.Between.{GoesBetween}
-use Rattle.newton_rounds.specs.Candidates.{candidate_formula}
 use Rattle.newton_rounds.specs.Closure.{exits_told}
 use Rattle.newton_rounds.specs.Pairs.{PairEnds}
 use Rattle.newton_rounds.proofs.CandidateSummaries.{pairs-go, pairs_with}

@@ -1,4 +1,4 @@
-use Rattle.std.proofs.Common.{◌≡◌, ◌<◌, ◌++◌, ◌∷◌, [], ◌+◌, ◌∙◌, append-nil, drop, length, sym, ap, subst, arith}
+use Rattle.std.proofs.Common.{◌++◌, ◌∷◌, [], ◌+◌, ◌∙◌, append-nil, drop, sym, arith}
 use Rattle.std.proofs.lemmas.List.{drop_all}
 use Rattle.newton_rounds.specs.Between.{IsMember}
 use Rattle.newton_rounds.specs.Candidates.{candidate_formula, table_of}

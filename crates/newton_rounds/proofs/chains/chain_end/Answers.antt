@@ -1,4 +1,4 @@
-use Rattle.std.proofs.Common.{◌≡◌, ◌<◌, ◌++◌, ◌∙◌, length, sym, subst, ap, arith}
+use Rattle.std.proofs.Common.{◌≡◌, ◌++◌, ◌∙◌, sym, subst, ap, arith}
 use Rattle.std.specs.Prelude.{IfOk, OnOk}
 use Rattle.transition_formula.specs.Composition.{sequence_of, losses_in_sequence}
 use Rattle.transition_formula.specs.Transition.{AreFew, Transition}

@@ -1,4 +1,4 @@
-use Rattle.std.proofs.Common.{◌≡◌, ◌∙◌, length, sym, ap, subst, refl}
+use Rattle.std.proofs.Common.{length, sym, subst}
 use Rattle.transition_formula.specs.Transition.{IsTransition}
 use Rattle.newton_rounds.specs.Between.{width_at}
 use Rattle.newton_rounds.specs.Closure.{chain_end, chains_of, losses_in_chain_end}

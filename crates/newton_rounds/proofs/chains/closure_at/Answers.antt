@@ -1,4 +1,4 @@
-use Rattle.std.proofs.Common.{◌≡◌, ◌++◌, ◌∙◌, length, sym, ap, subst, refl}
+use Rattle.std.proofs.Common.{◌≡◌, ◌++◌, ◌∙◌, sym, ap, subst}
 use Rattle.transition_formula.specs.Transition.{AreSolvable, Transition}
 use Rattle.proc_summary.specs.Summary.{Ends}
 use Rattle.posing.specs.Logs.{loss_notes}

@@ -1,4 +1,4 @@
-use Rattle.std.proofs.Common.{◌≡◌, ◌<◌, [], ◌+◌, drop, length, sym, ap, subst, refl, arith}
+use Rattle.std.proofs.Common.{[], ◌+◌, drop, sym, ap, subst, refl, arith}
 use Rattle.posing.specs.Follows.{Leads}
 use Rattle.posing.specs.Posing.{each}
 use Rattle.posing.proofs.Following.{leads_none}

@@ -1,4 +1,4 @@
-use Rattle.std.proofs.Common.{◌≡◌, sym, ap, subst, refl}
+use Rattle.std.proofs.Common.{sym, ap, subst, refl}
 use Rattle.posing.proofs.Steps.{in_other_words, value_first}
 use Rattle.newton_rounds.specs.Between.{FitTable}
 use Rattle.newton_rounds.specs.Close.{closure_by_rounds, rounds_after, rounds_over}

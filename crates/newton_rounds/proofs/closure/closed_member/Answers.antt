@@ -1,4 +1,4 @@
-use Rattle.std.proofs.Common.{◌≡◌, sym, ap, subst, refl}
+use Rattle.std.proofs.Common.{sym, ap, subst, refl}
 use Rattle.posing.proofs.Steps.{in_other_words, value_first}
 use Rattle.newton_rounds.specs.Between.{AreChained}
 use Rattle.newton_rounds.specs.Closure.{closure_at, closed_member}

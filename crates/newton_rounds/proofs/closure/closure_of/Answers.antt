@@ -1,4 +1,4 @@
-use Rattle.std.proofs.Common.{◌≡◌, ◌∙◌, List, [], length, map, sym, ap, subst, refl}
+use Rattle.std.proofs.Common.{◌∙◌, List, [], length, map, sym, ap, subst, refl}
 use Rattle.std.specs.List.{range_with_len}
 use Rattle.std.proofs.lemmas.List.{length-map}
 use Rattle.posing.specs.Posing.{each}

@@ -1,8 +1,8 @@
-use Rattle.std.proofs.Common.{◌≡◌, ◌<◌, ◌++◌, ◌∷◌, [], ◌∙◌, ◌+◌, drop, length, map, sym, ap, subst, arith}
+use Rattle.std.proofs.Common.{◌<◌, ◌++◌, ◌∷◌, [], ◌∙◌, ◌+◌, drop, length, map, sym, subst}
 use Rattle.std.specs.List.{flat_map}
 use Rattle.newton_rounds.specs.declared.calls.GroupCall as own
 use Rattle.newton_rounds.specs.Between.{IsStretchIn}
-use Rattle.newton_rounds.specs.Closure.{ends_at, group_leaf, losses_in_group_leaf, no_pair, stretches_with}
+use Rattle.newton_rounds.specs.Closure.{group_leaf, losses_in_group_leaf, no_pair, stretches_with}
 use Rattle.newton_rounds.specs.Pairs.{PairEnds, losses_in_pair, pair_formula}
 use Rattle.newton_rounds.specs.Shapes.{IsStretchBetween, plain_call, stretch_of}
 use Rattle.newton_rounds.proofs.ChainFormulas.{read-at}

@@ -1,4 +1,4 @@
-use Rattle.std.proofs.Common.{◌≡◌, ◌∙◌, sym, ap, subst}
+use Rattle.std.proofs.Common.{◌∙◌, sym, ap, subst}
 use Rattle.posing.proofs.Steps.{in_other_words}
 use Rattle.leaf_cases.specs.Conditions.{AreKnown}
 use Rattle.newton_rounds.specs.Closure.{sides_of}

@@ -1,4 +1,4 @@
-use Rattle.std.proofs.Common.{◌∷◌, [], ◌++◌, map, refl}
+use Rattle.std.proofs.Common.{◌∷◌, [], ◌++◌, refl}
 use Rattle.posing.specs.Posing.{Done}
 use Rattle.posing.proofs.Steps.{at_end, value_first}
 use Rattle.newton_rounds.specs.Closure.{with_closed}

@@ -1,4 +1,4 @@
-use Rattle.std.proofs.Common.{◌≡◌, ◌∙◌, subst, sym, refl}
+use Rattle.std.proofs.Common.{◌∙◌, subst, sym, refl}
 use Rattle.syntax_tree.specs.WellFormed.{width_of}
 use Rattle.posing.proofs.Steps.{at_end, value_first}
 use Rattle.proc_summary.specs.Claims.{FitsIf}

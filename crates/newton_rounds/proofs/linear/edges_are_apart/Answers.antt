@@ -1,4 +1,4 @@
-use Rattle.std.proofs.Common.{◌≡◌, ◌↔◌, ◌∙◌, IsTrue, map, subst, sym}
+use Rattle.std.proofs.Common.{◌↔◌, ◌∙◌, IsTrue, map, subst, sym}
 use Rattle.flow_graph.specs.Plain.{arc_of}
 use Rattle.newton_rounds.specs.Members.{AreApart}
 use Rattle.newton_rounds.specs.Reached.{TellsReached}

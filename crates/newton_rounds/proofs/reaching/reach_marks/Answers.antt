@@ -1,8 +1,7 @@
-use Rattle.std.proofs.Common.{◌≡◌, ◌<◌, ap, subst, sym, ◌∙◌, List, ℕ, Bool, true, false, length, replicate}
-use Rattle.std.specs.List.{AllByRecursion}
+use Rattle.std.proofs.Common.{◌<◌, subst, sym}
 use Rattle.std.proofs.lemmas.List.Elements.{recursion_from_All}
 use Rattle.path_expr.specs.declared.link.Link.{Link}
-use Rattle.newton_rounds.specs.Reached.{IsMarked, TellsReached, after_links, with_marks, count_unmarked}
+use Rattle.newton_rounds.specs.Reached.{IsMarked, TellsReached, count_unmarked}
 use Rattle.newton_rounds.proofs.Marks.{begun, goes-on, told, links-fewer}
 use Rattle.newton_rounds.proofs.reaching.reach_marks.Goals as goal
 

@@ -1,5 +1,5 @@
-use Rattle.std.proofs.Common.{◌≡◌, ◌++◌, ◌∙◌, List, refl, sym, subst}
-use Rattle.std.specs.Prelude.{All, Ok}
+use Rattle.std.proofs.Common.{◌++◌, ◌∙◌, List, refl, sym, subst}
+use Rattle.std.specs.Prelude.{All}
 use Rattle.items.specs.Gives.{FailsBy}
 use Rattle.linear_terms.specs.Operations.{substituted_polynomial}
 use Rattle.linear_terms.specs.Polynomial.{Polynomial}

@@ -1,4 +1,4 @@
-use Rattle.std.proofs.Common.{◌≡◌, ◌∙◌, [], refl, ap}
+use Rattle.std.proofs.Common.{◌∙◌, [], refl, ap}
 use Rattle.farkas_check.specs.Columns.{columns}
 use Rattle.posing.specs.Posing.{Done}
 use Rattle.posing.proofs.Steps.{at_end, in_other_words, value_first}

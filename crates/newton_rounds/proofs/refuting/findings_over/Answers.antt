@@ -1,4 +1,4 @@
-use Rattle.std.proofs.Common.{◌≡◌, ◌<◌, ◌∙◌, [], List, length, get_or, refl, sym, ap, subst}
+use Rattle.std.proofs.Common.{◌<◌, ◌∙◌, [], List, length, get_or, sym, ap, subst}
 use Rattle.std.specs.Prelude.{None}
 use Rattle.linear_terms.specs.declared.row.Case.{Case}
 use Rattle.farkas_check.specs.declared.answer.Limit.{Limit}

@@ -1,11 +1,10 @@
-use Rattle.std.proofs.Common.{◌≡◌, ◌++◌, ◌∙◌, [], List, refl, sym, ap, subst}
-use Rattle.linear_terms.specs.declared.row.Case.{Case}
+use Rattle.std.proofs.Common.{◌++◌, ◌∙◌, sym, ap, subst}
 use Rattle.transition_formula.specs.Loss.{losses_of}
 use Rattle.transition_formula.specs.Rounds.{in_order}
 use Rattle.transition_formula.specs.Transition.{IsSolvable}
 use Rattle.posing.specs.Logs.{loss_notes}
 use Rattle.posing.proofs.Steps.{in_other_words, notes_first}
-use Rattle.newton_rounds.specs.Candidates.{against, contrary, found_left, with_case}
+use Rattle.newton_rounds.specs.Candidates.{contrary, found_left, with_case}
 use Rattle.newton_rounds.specs.Shapes.{case_left_of}
 use Rattle.newton_rounds.proofs.Opposite.{against-solvable}
 use Rattle.newton_rounds.proofs.RowRefutations.{kept-solved}

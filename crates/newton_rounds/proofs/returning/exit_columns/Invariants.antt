@@ -1,4 +1,4 @@
-use Rattle.std.proofs.Common.{◌≡◌, ◌-◌, map}
+use Rattle.std.proofs.Common.{◌≡◌, map}
 use Rattle.std.specs.List.{range_with_len}
 use Rattle.linear_terms.specs.declared.col.Col.TheVariants.{Aux}
 use Rattle.linear_terms.specs.Polynomial.{column_of}

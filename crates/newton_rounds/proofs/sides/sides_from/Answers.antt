@@ -1,9 +1,6 @@
-use Rattle.std.proofs.Common.{◌≡◌, ◌∙◌, sym, subst, refl}
-use Rattle.posing.proofs.Following.{stops}
-use Rattle.posing.proofs.Steps.{at_end, error_first, value_first}
-use Rattle.path_expr.specs.declared.cell.Cell.{Cell}
+use Rattle.std.proofs.Common.{◌∙◌, sym, subst, refl}
+use Rattle.posing.proofs.Steps.{at_end, value_first}
 use Rattle.syntax_tree.specs.WellFormed.{width_of}
-use Rattle.transition_formula.specs.Transition.{Transition}
 use Rattle.proc_summary.specs.Claims.{FitsIf}
 use Rattle.proc_summary.specs.Flow.{formula_at}
 use Rattle.newton_rounds.specs.Closure.{sides_from}

@@ -1,5 +1,4 @@
-use Rattle.std.proofs.Common.{◌≡◌, ◌<◌, ◌+◌, ◌++◌, ◌∙◌, [], ◌∷◌, List, drop, get_or, length, refl, sym, ap, subst, append_assoc, append-nil}
-use Rattle.std.specs.Prelude.{slice_get, Some}
+use Rattle.std.proofs.Common.{◌≡◌, ◌+◌, ◌++◌, ◌∙◌, [], List, drop, get_or, refl, sym, ap, subst, append_assoc, append-nil}
 use Rattle.std.proofs.lemmas.List.{drop_all}
 use Rattle.posing.specs.Follows.{Leads}
 use Rattle.posing.specs.Posing.{each}

@@ -1,4 +1,4 @@
-use Rattle.std.proofs.Common.{◌≡◌, [], ◌++◌, List, drop}
+use Rattle.std.proofs.Common.{[], ◌++◌, List, drop}
 use Rattle.posing.specs.Follows.{Leads}
 use Rattle.posing.specs.Posing.{each}
 use Rattle.newton_rounds.specs.declared.calls.Sides.{Sides}

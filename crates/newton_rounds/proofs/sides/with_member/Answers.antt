@@ -1,4 +1,4 @@
-use Rattle.std.proofs.Common.{◌≡◌, ◌<◌, ◌∙◌, map, length, refl, sym, ap, subst}
+use Rattle.std.proofs.Common.{◌<◌, ◌∙◌, map, length, refl, sym, ap, subst}
 use Rattle.std.specs.Prelude.{All, IfOk}
 use Rattle.std.proofs.lemmas.List.{length-map}
 use Rattle.syntax_tree.specs.WellFormed.{width_of}

@@ -1,4 +1,4 @@
-use Rattle.std.proofs.Common.{◌≡◌, ◌∷◌, [], ◌++◌, ◌∙◌, refl}
+use Rattle.std.proofs.Common.{◌∷◌, [], refl}
 use Rattle.posing.proofs.Steps.{at_end, value_first}
 use Rattle.newton_rounds.specs.Closure.{with_sides}
 use Rattle.newton_rounds.proofs.sides.with_sides.Goals as goal

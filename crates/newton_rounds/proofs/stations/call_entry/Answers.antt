@@ -8,7 +8,7 @@ use Rattle.syntax_tree.specs.Term.{term_of}
 use Rattle.transition_formula.specs.Transition.{Transition, IsTransition}
 use Rattle.leaf_cases.specs.Edges.{arguments_of, entering}
 use Rattle.leaf_cases.specs.Guard.{columns_of, with_posts}
-use Rattle.newton_rounds.specs.Pairs.{PairEnds, call_entry, columns_from, entered_case}
+use Rattle.newton_rounds.specs.Pairs.{PairEnds, columns_from, entered_case}
 use Rattle.newton_rounds.proofs.PostFormulas.{fronted-few, fronted-fits}
 use Rattle.newton_rounds.proofs.stations.call_entry.Goals as goal
 

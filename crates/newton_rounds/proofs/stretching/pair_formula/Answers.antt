@@ -1,17 +1,14 @@
-use Rattle.std.proofs.Common.{◌≡◌, ℕ, ◌+◌, ◌<◌, ◌^◌, ◌++◌, ◌∙◌, List, length, map, sym, ap, subst, append_assoc, arith}
-use Rattle.std.specs.Prelude.{All, IfOk, OnOk}
+use Rattle.std.proofs.Common.{◌≡◌, ◌+◌, ◌<◌, ◌^◌, ◌∙◌, length, sym, ap, subst, arith}
+use Rattle.std.specs.Prelude.{All}
 use Rattle.std.specs.List.{range_with_len}
 use Rattle.std.proofs.lemmas.List.{length-map}
 use Rattle.syntax_tree.specs.Term.{term_of}
-use Rattle.transition_formula.specs.Equating.{equated_formula, losses_in_equating}
-use Rattle.transition_formula.specs.declared.loss.Loss.{Loss}
-use Rattle.transition_formula.specs.Posts.{with_posts}
 use Rattle.transition_formula.specs.Transition.{Transition}
 use Rattle.proc_summary.specs.Summary.{exit_places}
 use Rattle.newton_rounds.specs.Pairs.{PairEnds, along, callee_width, stations_of}
 use Rattle.newton_rounds.specs.Shapes.{stretch_of}
 use Rattle.newton_rounds.proofs.ExitColumns.{pair-holds}
-use Rattle.newton_rounds.proofs.CallStations.{callee-along, few-along, narrow, told-along}
+use Rattle.newton_rounds.proofs.CallStations.{callee-along, few-along, told-along}
 use Rattle.newton_rounds.proofs.stretching.pair_formula.Goals as goal
 
 pub equated_formula-requires-clause-there : goal.equated_formula-requires-clause-there

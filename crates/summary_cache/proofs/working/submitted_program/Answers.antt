@@ -1,4 +1,4 @@
-use Rattle.std.proofs.Common.{◌≡◌, ℕ, List, [], ◌∷◌, Option, IsTrue, refl, sym, ap, subst, ◌∙◌}
+use Rattle.std.proofs.Common.{◌≡◌, ℕ, List, [], ◌∷◌, IsTrue, refl, sym, ap, subst, ◌∙◌}
 use Rattle.std.specs.Prelude.{Err, map}
 use Rattle.c_lexer.specs.Laws.{ascends_from}
 use Rattle.syntax_tree.specs.declared.program.Program.{Program}
@@ -8,9 +8,7 @@ use Rattle.analysis.specs.Plan.{IsPlan}
 use Rattle.analysis.specs.Analysis.{report_by_findings}
 use Rattle.analysis.proofs.Quiet.{ended-quiet}
 use Rattle.kept_groups.specs.declared.over.FoundParts.{FoundParts}
-use Rattle.kept_groups.specs.Outcomes.{IsFoundOver}
 use Rattle.summary_cache.specs.Counted.{counts_of}
-use Rattle.summary_cache.specs.Kept.{groups_of}
 use Rattle.summary_cache.specs.Rules.{with_rule}
 use Rattle.summary_cache.specs.Stated.{text_place}
 use Rattle.summary_cache.proofs.Statements.{IsAsked, end-fails, fails, groups-fail, in-groups, quiet-ended, submitted}

@@ -1,4 +1,4 @@
-use Rattle.std.proofs.Common.{◌≡◌, sym}
+use Rattle.std.proofs.Common.{sym}
 use Rattle.summary_cache.proofs.Statements.{next-allowed, session-first, session-first_cause}
 use Rattle.summary_cache.proofs.session.Session.submit.Goals as goal
 
