@@ -2,9 +2,9 @@
 """Times the built program on the texts of `bench/texts`, and on made texts that grow: chains of procedures with nested loops, one
 loop over more and more variables that branches, loops one behind the other, loops inside each other, recursion over more and more
 globals, a ring of procedures each of which calls the next one, procedures of many locals with loops of many branches, and procedures
-with loops of branches over shared globals, called in a loop, in which `prove` looks for rows at points. For each text: its lines, the
-cost of `analyse`, of `certify` and of `check` of what that printed, and the number of answers. Where a made text has twice the size
-of one before it, the growth of the costs is told as an exponent: 1 is linear, 2 quadratic.
+with loops of branches, or with nested loops, over shared globals, called in a loop, in which `prove` looks for rows at points. For
+each text: its lines, the cost of `analyse`, of `certify` and of `check` of what that printed, and the number of answers. Where a made
+text has twice the size of one before it, the growth of the costs is told as an exponent: 1 is linear, 2 quadratic.
 
 usage: time_programs.py [--instructions] [--beside WORD] [--only NAME] PROGRAM
 
@@ -93,10 +93,24 @@ def shared(count):
     return text + f"  }}\n  assert({rng.choice(names)} >= 0);\n  assert(t <= m);\n}}\n"
 
 
+def nests(count):
+    rng, names = random.Random(8), ["g%d" % k for k in range(10)]
+    text = "".join(f"int {it} = {rng.randrange(3)};\n" for it in names)
+    for k in range(count):
+        a, b, c, d = rng.sample(names, 4)
+        text += (f"int p{k}(int n, int m) {{\n  int i = 0; int s = 0;\n  while (i < n) {{\n    int j = 0;\n    while (j < m) {{\n      j++;\n"
+                 f"      if ({a} < {b}) {a}++; else if ({c} > j) {c}--;\n      if (s < {d}) s = s + 1;\n    }}\n    i++;\n")
+        text += f"    if ({d} == i) s = p{rng.randrange(k)}(j, {a});\n" if k else ""
+        text += f"    if (s > {a}) {b} = s;\n  }}\n  assert(s <= n + m);\n  return s;\n}}\n"
+    text += "int main(void) {\n  int t = 0;\n  while (__VERIFIER_nondet_int()) {\n    t++;\n"
+    text += "".join(f"    {rng.choice(names)} = p{k}(t, {rng.choice(names)});\n" for k in range(count))
+    return text + f"  }}\n  assert({names[0]} <= t);\n}}\n"
+
+
 MADE = [("chain", chain, (1, 2, 4, 8, 16, 32, 64)), ("variables", variables, (2, 4, 8, 12, 16)), ("loops", loops, (5, 10, 20, 40)),
         ("nested", nested, (2, 4, 6, 8, 10)), ("recursion", recursion, (2, 4, 8, 12, 16)),
         ("ring", ring, (16, 32, 64, 128, 256)), ("locals", locals_, (1, 2, 4)),
-        ("shared", shared, (2, 3, 4, 5, 6, 7, 8))]
+        ("shared", shared, (2, 3, 4, 5, 6, 7, 8)), ("nests", nests, (2, 4, 6, 8))]
 TEXTS = os.path.join(os.path.dirname(os.path.abspath(__file__)), "texts")
 
 
