@@ -8,7 +8,7 @@ use Rattle.items.specs.Gives.{◌>>=◌, Gives}
 use Rattle.whole_numbers.specs.Dot.{dot}
 use Rattle.whole_numbers.specs.Fits.{fits, sum_of, product_of}
 use Rattle.whole_numbers.proofs.Ring.{neg_ℤ-neg_ℤ}
-use Rattle.cones.specs.Cones.{Cleared, Kept, Given, along_sign, projection, clearing, clearing_with, are_at_most, ends, at_end, extremes_at_zero, extremes}
+use Rattle.cones.specs.Cones.{Cleared, Kept, Given, along_sign, projection, clearing, clearing_with, are_at_most, ends, extremes_at_zero, extremes}
 use Rattle.cones.specs.InBits as in_bits
 use Rattle.cones.specs.InBits.{Made, IsOrLeaves, ◌⊞◌}
 use Rattle.cones.specs.Laws.{StepsMakeWhatIsDefined}

@@ -1,5 +1,5 @@
 -- Lengths of the directions from a point, and the points of a list.
-use Rattle.std.proofs.Common.{◌≡◌, ℕ, zero, suc, ◌+◌, ◌<◌, List, [], ◌∷◌, drop, fold, get_or, length, map, sym, ap, subst, ◌∙◌, arith, ℤ}
+use Rattle.std.proofs.Common.{◌≡◌, ℕ, zero, suc, ◌<◌, List, [], ◌∷◌, fold, get_or, length, map, sym, ap, ◌∙◌, arith, ℤ}
 use Rattle.std.specs.Prelude.{neg_ℤ}
 use Rattle.std.specs.BTreeSet.{insert_key}
 use Rattle.std.specs.Cmp.Lexicographic.{slice_cmp}

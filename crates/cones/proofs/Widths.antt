@@ -1,5 +1,5 @@
 -- Lengths of vectors.
-use Rattle.std.proofs.Common.{◌≡◌, ℕ, zero, suc, take, drop, subst, Bool, true, false, cond, refl, sym, ◌∙◌, arith, List, [], ◌∷◌, map, length, nat_eq, ℤ, pos, ◌*ℤ◌}
+use Rattle.std.proofs.Common.{◌≡◌, ℕ, zero, suc, take, drop, Bool, true, false, cond, refl, sym, ◌∙◌, arith, List, [], ◌∷◌, map, length, nat_eq, ℤ, pos, ◌*ℤ◌}
 use Rattle.std.specs.Prelude.{int_div, neg_ℤ, unsigned_abs}
 use Rattle.std.specs.Ordering.{int_eq}
 use Rattle.whole_numbers.specs.Divisors.{gcd_of_all}

@@ -1,8 +1,7 @@
 -- What a cost says of its case, as long as each answer is good for its question.
-use Rattle.std.proofs.Common.{◌≡◌, ℕ, zero, suc, ◌<◌, Bool, true, false, ℤ, pos, ◌-ℤ◌, ◌*ℤ◌, ◌≤ℤ◌, ◌<ℤ◌, List, [], ◌∷◌, ◌++◌, length, map, Option, Some, None, Result, Ok, Err, refl, sym, ap, subst, ◌∙◌, arith}
-use Rattle.std.specs.Prelude.{IsTrue, slice_get, unwrap_or, IfOk, if◌then◌else◌}
+use Rattle.std.proofs.Common.{◌≡◌, ℕ, zero, suc, ◌<◌, Bool, true, false, ℤ, pos, ◌-ℤ◌, ◌*ℤ◌, ◌≤ℤ◌, List, [], ◌∷◌, length, map, Option, Some, None, Result, Ok, Err, refl, sym, ap, subst, ◌∙◌, arith}
+use Rattle.std.specs.Prelude.{slice_get, unwrap_or, if◌then◌else◌}
 use Rattle.std.specs.List.{AllByRecursion, remove}
-use Rattle.std.proofs.lemmas.Int.{ints}
 use Rattle.std.proofs.lemmas.List.Elements.{recursion_from_All}
 use Rattle.whole_numbers.specs.Divisors.{gcd_of_all}
 use Rattle.linear_terms.specs.declared.col.Col.TheVariants.{At}
@@ -12,9 +11,8 @@ use Rattle.linear_terms.specs.declared.row.Kind.{Kind}
 use Rattle.linear_terms.specs.declared.row.Kind.TheVariants.{AtMost, Equal}
 use Rattle.linear_terms.specs.declared.row.Row.{Row}
 use Rattle.linear_terms.specs.Expressions.{Made, negation}
-use Rattle.linear_terms.specs.Operations.{difference_of_polys}
-use Rattle.linear_terms.specs.Polynomial.{Polynomial, IsCanonical, constant_of, column_of, without_constant}
-use Rattle.linear_terms.specs.Row.{RowsHold, AreCanonical}
+use Rattle.linear_terms.specs.Polynomial.{Polynomial, IsCanonical, column_of, without_constant}
+use Rattle.linear_terms.specs.Row.{RowsHold}
 use Rattle.linear_terms.specs.Value.{Valuation, value_of}
 use Rattle.linear_terms.proofs.Values.{difference_of_polys-value}
 use Rattle.linear_terms.proofs.Worth.{column_of-value}
@@ -23,12 +21,12 @@ use Rattle.farkas_check.specs.declared.answer.Answer.TheVariants as answer
 use Rattle.farkas_check.specs.declared.answer.Limit.{Limit}
 use Rattle.farkas_check.specs.declared.question.Question.{Question}
 use Rattle.farkas_check.specs.declared.question.Question.TheVariants.{Infeasible}
-use Rattle.farkas_check.specs.Tested.{Passes, tested_yes}
+use Rattle.farkas_check.specs.Tested.{Passes}
 use Rattle.farkas_check.proofs.Farkas.{CanonicalRows}
 use Rattle.farkas_check.proofs.Tight.{passing}
 use Rattle.transition_formula.specs.Meaning.{numbers, HoldsAt, HoldsCase}
 use Rattle.posing.specs.Follows.{IsGood}
-use Rattle.posing.specs.Posing.{Posing, Done, answer_to, ◌>>=◌, down, AlwaysUnder}
+use Rattle.posing.specs.Posing.{Done, ◌>>=◌, AlwaysUnder}
 use Rattle.posing.proofs.UnderAnswers.{under-bind, under-down}
 use Rattle.cost_bounds.specs.declared.cost.Cost.{Cost}
 use Rattle.cost_bounds.specs.declared.cost.Cost.TheVariants as cost
@@ -38,10 +36,10 @@ use Rattle.cost_bounds.specs.Questions.{cost_rows, entry_rows, first_question}
 use Rattle.cost_bounds.specs.Small.{yes_of, kept_part, fewer_rows, yes_to, trial, is_of, row_trial, without_row, without_rows, entry_trial, without_entry, without_entries, least_kept}
 use Rattle.farkas_check.specs.Multiples.{lowest_multipliers}
 use Rattle.cost_bounds.specs.Costs.{scale_in, bound_of, limit_of, bound_by, kept_bound, by_answer, cost_asked, cost_by_last, cost_of_change, cost_by, case_cost}
-use Rattle.cost_bounds.specs.Says.{change_between, entry_value, IsMet, IsMetByCase, IsWide, IsAsked, IsExact, IsBound, IsUnbounded, IsLimited, unanswered, change_wide, question_wide, bound_wide, Says}
+use Rattle.cost_bounds.specs.Says.{change_between, entry_value, IsMetByCase, IsAsked, IsLimited, unanswered, change_wide, question_wide, bound_wide, Says}
 use Rattle.cost_bounds.proofs.Lists.{each-remove}
 use Rattle.cost_bounds.proofs.Bounds.{bound-met, scale-positive}
-use Rattle.cost_bounds.proofs.OverEntry.{IsOverEntry, IsOverEntry-test, IsEntryRow, entry_rows-are, flat_rows, bound-over, entry-value}
+use Rattle.cost_bounds.proofs.OverEntry.{IsOverEntry-test, IsEntryRow, entry_rows-are, flat_rows, bound-over, entry-value}
 use Rattle.cost_bounds.proofs.RayGrowth.{grows}
 use Rattle.farkas_check.proofs.LowestMultipliers.{yes-lowest_multipliers, coprime-lowest_multipliers}
 use Rattle.cost_bounds.proofs.Wide.{difference_of_polys-wide, negation-wide, bound-wide}

@@ -1,8 +1,7 @@
 -- What comes of a case: its change in entry values, a bound on it, a ray that shows that there is
 -- none, or a limit.
-use Rattle.std.specs.Prelude.{ℕ, ℤ, pos, int_div, List, [], ◌∷◌, length, map, drop, max, Result, Ok, Err, if◌then◌else◌}
+use Rattle.std.specs.Prelude.{ℕ, ℤ, pos, List, [], ◌∷◌, length, drop, Result, Ok, Err, if◌then◌else◌}
 use Rattle.items.specs.Gives as gives
-use Rattle.whole_numbers.specs.Divisors.{gcd_of_all}
 use Rattle.linear_terms.specs.declared.error.TermError.{TermError}
 use Rattle.linear_terms.specs.declared.error.TermError.TheVariants.{Wide, Degree, Memory}
 use Rattle.linear_terms.specs.declared.row.Case.{Case}

@@ -1,13 +1,12 @@
 -- Multipliers divided by their greatest common divisor pass the test where they did before.
-use Rattle.std.proofs.Common.{◌≡◌, ℕ, zero, suc, ◌+◌, ◌*◌, ◌<◌, ◌≤◌, max, Bool, true, false, cond, ℤ, pos, negsuc, ◌+ℤ◌, ◌*ℤ◌, ◌≤ℤ◌, ◌<ℤ◌, List, [], ◌∷◌, map, length, Result, Ok, Err, refl, sym, ap, subst, ◌∙◌, ⊎_elim, arith}
+use Rattle.std.proofs.Common.{◌≡◌, ℕ, zero, suc, ◌+◌, ◌*◌, ◌<◌, ◌≤◌, max, Bool, true, false, cond, ℤ, pos, negsuc, ◌+ℤ◌, ◌*ℤ◌, ◌≤ℤ◌, ◌<ℤ◌, List, [], ◌∷◌, length, Result, Ok, Err, refl, sym, ap, subst, ◌∙◌, ⊎_elim, arith}
 use Rattle.std.specs.Prelude.{◌^◌, ◌&&◌, ◌==◌, nat_lt, int_le, int_lt, int_div, neg_ℤ, unsigned_abs}
-use Rattle.std.specs.Int.{◌∣◌}
 use Rattle.std.specs.List.{list_all, zip}
 use Rattle.std.proofs.lemmas.Int.{ints}
 use Rattle.std.proofs.lemmas.Bool.{cases_lt, lt-ltb, ltb-true}
 use Rattle.std.proofs.lemmas.Bool.Decides.{Decides-int_eq}
 use Rattle.std.proofs.Math.IntN.{zero-*ℤ}
-use Rattle.std.proofs.Math.Nat.{le-mul_of_pos_right, suc-mul, eq-zero_of_zero-dvd}
+use Rattle.std.proofs.Math.Nat.{le-mul_of_pos_right, eq-zero_of_zero-dvd}
 use Rattle.items.specs.Gives.{◌>>=◌}
 use Rattle.items.proofs.Gives.{on_ok}
 use Rattle.whole_numbers.specs.declared.wide.Wide.{Wide}
@@ -15,17 +14,16 @@ use Rattle.whole_numbers.specs.Divisors.{gcd_of_all}
 use Rattle.whole_numbers.specs.Fits.{fits, sum_of, product_of}
 use Rattle.whole_numbers.proofs.CommonDivisors.{DividesEach, DividesEach-gcd_of_all}
 use Rattle.whole_numbers.proofs.Quotients.{int_div-*ℤ, quotients, gcd_of_all-reduced}
-use Rattle.whole_numbers.proofs.Ring.{ring, ≤ℤ-*ℤ, *ℤ_cancel, *ℤ_assoc, *ℤ-≤ℤ, +ℤ-*ℤ, sum_of-value, product_of-value}
+use Rattle.whole_numbers.proofs.Ring.{≤ℤ-*ℤ, *ℤ_cancel, *ℤ_assoc, *ℤ-≤ℤ, +ℤ-*ℤ, sum_of-value, product_of-value}
 use Rattle.linear_terms.specs.declared.col.Col.{Col}
 use Rattle.linear_terms.specs.declared.row.Kind.{Kind}
 use Rattle.linear_terms.specs.declared.row.Kind.TheVariants.{AtMost, Equal}
 use Rattle.linear_terms.specs.declared.row.Row.{Row}
-use Rattle.linear_terms.specs.Value.{Valuation}
 use Rattle.farkas_check.specs.Columns.{columns}
 use Rattle.farkas_check.specs.Multiples.{is_multiplier, are_multipliers, lowest_multipliers, Form, sum_from, number_at, constant_in, sums_at, constant_sum, sum_of_multiples, is_zero, is_positive_constant}
 use Rattle.farkas_check.specs.Tested.{tested_yes}
 use Rattle.farkas_check.proofs.Farkas.{bool_ok, both_true, on_parts, ok_true, total, CanonicalRows, numbers_ok, form_ok, form_of}
-use Rattle.farkas_check.proofs.Totals.{Cancels, cancels}
+use Rattle.farkas_check.proofs.Totals.{cancels}
 
 -- ---- numbers of 128 bits
 

@@ -13,7 +13,7 @@ pub(crate) enum ColumnSource<'a> {
 }
 
 /// How many columns are listed at most.
-pub(crate) const LISTED: usize = 64;
+pub(crate) const LISTED: usize = 256;
 
 /// Columns. The first of them are listed in place, which takes no memory; the others are found by
 /// going over all terms.

@@ -1,13 +1,12 @@
 -- The formulas of edges have canonical rows.
-use Rattle.std.proofs.Common.{◌≡◌, ℕ, zero, suc, ◌+◌, ◌<◌, ℤ, pos, negsuc, Bool, true, false, List, [], ◌∷◌, ◌++◌, length, map, Option, Some, None, Ok, Err, refl, arith}
+use Rattle.std.proofs.Common.{◌≡◌, ℕ, zero, suc, ◌+◌, ℤ, pos, negsuc, Bool, true, false, List, [], ◌∷◌, ◌++◌, length, map, Option, Some, None, Ok, Err, refl, arith}
 use Rattle.std.specs.Prelude.{slice_get, unwrap_or}
 use Rattle.std.specs.List.{AllByRecursion, cons_option, flat_map}
 use Rattle.items.specs.Gives.{◌>>=◌}
 use Rattle.items.proofs.Gives.{on_ok}
-use Rattle.items.proofs.Each.{each-any, each-append, each-both, each-flat_map, each-map, each-more}
+use Rattle.items.proofs.Each.{each-any, each-append, each-flat_map, each-map, each-more}
 use Rattle.linear_terms.specs.declared.col.Col.{Col}
 use Rattle.linear_terms.specs.declared.col.Col.TheVariants.{At, Aux}
-use Rattle.linear_terms.specs.declared.error.TermError.{TermError}
 use Rattle.linear_terms.specs.declared.row.Row.{Row}
 use Rattle.linear_terms.specs.declared.row.Case.{Case}
 use Rattle.linear_terms.specs.Auxiliaries.{renumbered_polynomial}
@@ -36,7 +35,7 @@ use Rattle.leaf_cases.specs.declared.step.CaseStep.TheVariants.{Value, Divide, T
 use Rattle.leaf_cases.specs.Claims.{Answer, Claim, case_with_claims, rows_of, case_with_value}
 use Rattle.leaf_cases.specs.Division.{all_signs, divisor_sign, dividend_sign, division, equation, lower_bound, minus_one, one, upper_bound}
 use Rattle.leaf_cases.specs.Division as division
-use Rattle.leaf_cases.specs.Edges.{any_of, arguments_after, arguments_of, call_of, call_sequence, cut, entering, awaited_count, known_call, leaf_of, leaving_case, no_values, set_case}
+use Rattle.leaf_cases.specs.Edges.{arguments_after, arguments_of, call_of, call_sequence, cut, entering, awaited_count, known_call, leaf_of, leaving_case, no_values, set_case}
 use Rattle.leaf_cases.specs.Expression.{Lists, by, calculation_lists, comparison_list, comparison, one_case, lists_of, number_cases, of_number, of_test, operator_lists, opposite, sign_lists, tests_of}
 use Rattle.leaf_cases.specs.Guard.{columns_of}
 use Rattle.leaf_cases.specs.Guard as guards

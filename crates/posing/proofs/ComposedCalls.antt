@@ -7,7 +7,7 @@
 --     kept_same                  the same computation, as another text of one meaning poses it
 --     kept_run, kept_always      what comes of it under the kept answers; its properties
 --     leads_kept                 a part of a call that takes kept answers in place of asking
-use Rattle.std.proofs.Common.{◌≡◌, List, [], ◌∷◌, ◌++◌, Option, None, Some, Ok, Err, refl, sym, ap, ◌∙◌, subst, arith}
+use Rattle.std.proofs.Common.{◌≡◌, List, [], ◌∷◌, ◌++◌, Option, None, Some, Ok, Err, refl, sym, ap, ◌∙◌, subst}
 use Rattle.farkas_check.specs.declared.answer.Answer.{Answer}
 use Rattle.farkas_check.specs.declared.question.Question.{Question}
 use Rattle.farkas_check.specs.Asking.{Asking}
@@ -16,7 +16,7 @@ use Rattle.posing.specs.declared.error.WorkError.{WorkError}
 use Rattle.posing.specs.declared.error.WorkError.TheVariants.{Refused, Memory}
 use Rattle.posing.specs.declared.log.Log.{Log}
 use Rattle.posing.specs.declared.note.Note.{Note}
-use Rattle.posing.specs.Posing.{Posing, Done, Noted, Asked, ◌>>=◌, each, Finished, Stuck, after_notes, run, Always, Path}
+use Rattle.posing.specs.Posing.{Posing, Done, Asked, ◌>>=◌, each, Finished, Stuck, after_notes, run, Always}
 use Rattle.posing.specs.Posing as posing
 use Rattle.posing.specs.Follows.{IsGood, with_all, silent, Leads, IsRefused, Follows}
 use Rattle.posing.specs.Replay.{IsMissing, IsReplay, Keeps}

@@ -25,7 +25,6 @@ use Rattle.farkas_check.specs.declared.question.Question.{Question}
 use Rattle.farkas_check.specs.Asking.{Asking}
 use Rattle.farkas_check.specs.Meaning.{IsTrueAnswer}
 use Rattle.farkas_check.specs.Refusals.{with_first, HasCause}
-use Rattle.whole_numbers.specs.Counters.{Rose}
 use Rattle.farkas_check.specs.declared.oracle.AskError.{AskError}
 use Rattle.farkas_check.specs.declared.oracle.AskError.TheVariants as asked
 use Rattle.posing.specs.declared.error.WorkError.{WorkError}

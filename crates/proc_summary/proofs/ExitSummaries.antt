@@ -1,11 +1,11 @@
 -- What is told of an exit, and that the summary of a procedure is met.
 use Rattle.std.proofs.Common.{◌≡◌, ℕ, ℤ, pos, ◌+◌, ◌-◌, ◌<◌, ◌≤◌, ◌^◌, List, [], ◌∷◌, ◌++◌, length, map, take, drop, Bool, true, false, Option, None, Some, zero, suc, refl, sym, ap, subst, ◌∙◌, arith, append-nil, append_assoc, length-append}
-use Rattle.std.specs.Prelude.{All, IsTrue, ◌&&◌, count_by, get_or, if◌then◌else◌, nat_le, slice_get, slice_index_or, unwrap_or}
+use Rattle.std.specs.Prelude.{All, IsTrue, ◌&&◌, if◌then◌else◌, nat_le, slice_get, unwrap_or}
 use Rattle.std.specs.Option.{is_none}
 use Rattle.std.specs.List.{AllByRecursion, list_all, range_with_len}
 use Rattle.std.proofs.lemmas.Bool.{and_parts, leb-true}
 use Rattle.std.proofs.lemmas.List.{drop_more, map-append}
-use Rattle.std.proofs.lemmas.List.Elements.{All-from_recursion, recursion_from_All}
+use Rattle.std.proofs.lemmas.List.Elements.{All-from_recursion}
 use Rattle.std.proofs.lemmas.List.FromFn.{length-range_with_len}
 use Rattle.std.proofs.lemmas.List.Sums.{count_by-le-length}
 use Rattle.std.proofs.lemmas.Option.{unwrap_or-slice_get}
@@ -16,30 +16,27 @@ use Rattle.transition_formula.specs.Composition.{by}
 use Rattle.transition_formula.specs.Hiding.{hidden, hidden_case, hiding}
 use Rattle.transition_formula.specs.Loss.{answer_of}
 use Rattle.transition_formula.specs.Meaning.{Covers, Holds}
-use Rattle.transition_formula.specs.Posts.{case_with_posts, numbers_at, with_posts}
-use Rattle.transition_formula.specs.Transition.{Transition, IsTransition, IsFitted, IsSolvable, AreSolvable, fits, is_fitted}
-use Rattle.polyhedra.specs.Vocabulary.{Vocabulary, IsVocabulary}
+use Rattle.transition_formula.specs.Posts.{case_with_posts, numbers_at}
+use Rattle.transition_formula.specs.Transition.{Transition, IsTransition, IsFitted, AreSolvable, fits}
 use Rattle.syntax_tree.specs.declared.program.Proc.{Proc}
 use Rattle.syntax_tree.specs.declared.program.Program.{Program}
-use Rattle.syntax_tree.specs.Code.{code_of}
 use Rattle.syntax_tree.specs.Value.{State}
 use Rattle.syntax_tree.specs.WellFormed.{IsProcFit, IsWellFormed, width_of}
-use Rattle.execution.specs.Execution.{Returns}
 use Rattle.flow_graph.specs.FlowGraph.{body_of, exit_of}
 use Rattle.flow_graph.specs.Laws.{last_of}
 use Rattle.flow_graph.specs.Walks.{WalksTo}
-use Rattle.leaf_cases.specs.Conditions.{IsKnown, exits_of}
+use Rattle.leaf_cases.specs.Conditions.{IsKnown}
 use Rattle.leaf_cases.specs.Summaries.{SummaryIsMet, exit_values, if_returned}
 use Rattle.vocabularies.specs.Ends.{entry_of, entry_width, exit_width, full_of, value_width}
 use Rattle.vocabularies.specs.Ends as ends
 use Rattle.vocabularies.specs.Procs.{IsProcOf}
 use Rattle.checked_tree.specs.Law.{IsBetweenEnds, IsEnd, IsFrom}
 use Rattle.proc_summary.specs.declared.stop.Flow.{Flow}
-use Rattle.proc_summary.specs.Claims.{FitsFlow, FitsIf, FlowHolds, HoldsIf, IsBetweenStates}
-use Rattle.proc_summary.specs.Summary.{Ends, ends_of, exit_formula, exit_places, projection_of, value_place}
+use Rattle.proc_summary.specs.Claims.{FitsFlow, FitsIf, FlowHolds, HoldsIf}
+use Rattle.proc_summary.specs.Summary.{ends_of, exit_formula, exit_places, projection_of, value_place}
 use Rattle.proc_summary.specs.Parts.{IsFit, IsToldBy, IsToldFrom}
 use Rattle.proc_summary.proofs.Graphs.{few-solvable, full-columns, length-after, narrow, post-length, proc-fit}
-use Rattle.proc_summary.proofs.CratesBelow.{IsVocabulary-below, hidden-fits, hidden-holds, range-below, returns_are_walks, some_at, with_posts-fits, with_posts-holds}
+use Rattle.proc_summary.proofs.CratesBelow.{IsVocabulary-below, hidden-fits, hidden-holds, range-below, returns_are_walks, with_posts-fits, with_posts-holds}
 
 -- ---- few auxiliaries
 

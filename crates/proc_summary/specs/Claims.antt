@@ -1,5 +1,5 @@
 -- What holds of a flow, and of the nodes of a graph.
-use Rattle.std.specs.Prelude.{◌≡◌, ◌<◌, ℕ, ℤ, All, Option, None, Some, List, ◌++◌, length, map}
+use Rattle.std.specs.Prelude.{◌≡◌, ℕ, All, Option, None, Some, List, ◌++◌, length, map}
 use Rattle.std.specs.List.{AllByRecursion, slice_get}
 use Rattle.path_expr.specs.declared.cell.Cell.{Cell}
 use Rattle.syntax_tree.specs.declared.program.Proc.{Proc}

@@ -1,7 +1,6 @@
 -- What the flow of a procedure is made from, and nothing else of its program.
 use Rattle.std.specs.Prelude.{ℕ, List, [], ◌∷◌, Option, length, map, replicate}
 use Rattle.std.specs.List.{flat_map}
-use Rattle.linear_terms.specs.Polynomial.{Polynomial}
 use Rattle.path_expr.specs.declared.link.Link.{Link}
 use Rattle.polyhedra.specs.Vocabulary.{Vocabulary}
 use Rattle.syntax_tree.specs.declared.program.Proc.{Proc}

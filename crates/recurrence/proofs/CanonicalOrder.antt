@@ -26,7 +26,7 @@ use Rattle.transition_formula.proofs.Numbers.{count_below-keeps}
 use Rattle.transition_formula.proofs.TidiedRows.{tidied-keeps}
 use Rattle.posing.specs.Posing.{Done, ◌>>=◌, Always}
 use Rattle.posing.proofs.Paths.{always_any, always_bind, always_each}
-use Rattle.polyhedra.specs.Finish.{cut, cut_case, finished_left}
+use Rattle.polyhedra.specs.Finish.{cut, finished_left}
 use Rattle.polyhedra.specs.Finish as finish
 use Rattle.polyhedra.specs.Infeasibility.{infeasible}
 use Rattle.polyhedra.specs.Settle.{feasible, feasible_by, feasible_left, settled_formula, settled_case, settled_cases, unless, with_settled}

@@ -1,5 +1,5 @@
 -- What is put in for known columns, and what it makes of products, has no columns but these.
-use Rattle.std.proofs.Common.{◌≡◌, ℕ, zero, suc, ◌<◌, List, [], ◌∷◌, true, Ok, Err, All, map, length, refl, sym, subst, arith, pos}
+use Rattle.std.proofs.Common.{◌≡◌, ℕ, suc, List, [], ◌∷◌, Ok, Err, All, length, refl, sym, subst, pos}
 use Rattle.std.specs.Prelude.{Option, IsTrue}
 use Rattle.std.specs.List.{AllByRecursion, list_all}
 use Rattle.std.proofs.lemmas.List.Elements.{All-from_recursion, recursion_from_All}
@@ -13,7 +13,7 @@ use Rattle.linear_terms.proofs.Columns.{EachColumn}
 use Rattle.polyhedra.specs.Bounds.{IsCovered}
 use Rattle.polyhedra.proofs.Lists.{filter-passes}
 use Rattle.recurrence.specs.Products.{is_known, columns_after_turn, growth, grown, known_products}
-use Rattle.recurrence.specs.Words.{HasKnown, IsClosed, AreCovered, IsCoveredIfMade}
+use Rattle.recurrence.specs.Words.{IsClosed, AreCovered, IsCoveredIfMade}
 use Rattle.recurrence.proofs.SolvedColumns.{known-low, turned-each}
 use Rattle.recurrence.proofs.Within.{IsWithin, within-Ok, growth-within, next-within}
 

@@ -1,28 +1,26 @@
 -- Products of known columns along a run: their differences are true forward differences of their
 -- numbers at its states.
-use Rattle.std.proofs.Common.{◌≡◌, ℕ, zero, suc, ◌+◌, ◌<◌, ◌≤◌, ◌⊎◌, inl, inr, List, [], ◌∷◌, Bool, true, false, Ok, Err, map, refl, sym, ap, subst, ◌∙◌, arith, ℤ, pos, ◌+ℤ◌, ◌-ℤ◌, ◌*ℤ◌}
-use Rattle.std.specs.Prelude.{Option, None, Some, IsTrue, ◌&&◌, slice_get, slice_set, unwrap_or}
+use Rattle.std.proofs.Common.{◌≡◌, ℕ, zero, suc, ◌+◌, ◌<◌, ◌⊎◌, inl, inr, List, [], ◌∷◌, true, false, Ok, refl, sym, ap, ◌∙◌, arith, ℤ, pos, ◌+ℤ◌, ◌-ℤ◌, ◌*ℤ◌}
+use Rattle.std.specs.Prelude.{Option, None, Some, IsTrue}
 use Rattle.std.specs.List.{AllByRecursion, list_all}
 use Rattle.std.specs.Option.{is_some}
 use Rattle.std.proofs.lemmas.Int.{ints}
-use Rattle.items.specs.Gives.{◌>>=◌}
 use Rattle.items.proofs.Gives.{on_ok}
 use Rattle.items.proofs.Each.{each_from_test}
 use Rattle.linear_terms.specs.declared.col.Col.{Col}
 use Rattle.linear_terms.specs.declared.col.Col.TheVariants.{At, Aux}
 use Rattle.linear_terms.specs.Expressions.{Made, ◌⊞◌, column}
-use Rattle.linear_terms.specs.Operations.{substituted_polynomial}
-use Rattle.linear_terms.specs.Polynomial.{Terms, Polynomial, constant_of, column_of, mono_of}
+use Rattle.linear_terms.specs.Polynomial.{Terms, Polynomial, mono_of}
 use Rattle.linear_terms.specs.Replacement.{put_in}
 use Rattle.linear_terms.specs.Value.{Valuation, mono_value, terms_value, value_of}
 use Rattle.linear_terms.proofs.Columns.{EachColumn}
 use Rattle.linear_terms.proofs.Values.{substituted-value}
 use Rattle.linear_terms.proofs.Worth.{IsWorth, IsWorth-Ok, IsWorth-same, IsWorth-column, IsWorth-sum, IsWorth-difference, column_of-value}
 use Rattle.transition_formula.specs.Meaning.{numbers}
-use Rattle.transition_formula.specs.Transition.{Transition, every_column}
-use Rattle.polyhedra.specs.Changes.{is_modified, moving}
+use Rattle.transition_formula.specs.Transition.{Transition}
+use Rattle.polyhedra.specs.Changes.{is_modified}
 use Rattle.polyhedra.proofs.Turns.{number_in, Reads, reads-numbers, unmodified-unmoved, IsRunOf}
-use Rattle.recurrence.specs.Products.{knowledge_of, is_known, unmodified_columns, with_term, with_change, with_solved, sole, is_open, columns_after_turn, growth, grown, sequence_of}
+use Rattle.recurrence.specs.Products.{knowledge_of, is_known, unmodified_columns, with_change, columns_after_turn, growth, grown, sequence_of}
 use Rattle.recurrence.specs.Words.{HasKnown, IsClosed}
 use Rattle.recurrence.proofs.SolvedColumns.{change-keeps, closed-next, set-known, unchanged-closed, unchanged-known, turned-known}
 

@@ -1,7 +1,7 @@
 -- Columns of which it is known what a turn makes of them: this has known columns alone.
 use Rattle.std.proofs.Common.{◌≡◌, ℕ, zero, suc, ◌+◌, ◌<◌, ◌≤◌, ◌⊎◌, inl, inr, List, [], ◌∷◌, Bool, true, false, Ok, Err, map, length, fold, refl, sym, ap, subst, ◌∙◌, arith, ℤ, pos, ◌+ℤ◌, ◌*ℤ◌}
-use Rattle.std.specs.Prelude.{Option, None, Some, IsTrue, not, ◌&&◌, nat_lt, slice_get, slice_set, unwrap_or, if◌then◌else◌}
-use Rattle.std.specs.List.{AllByRecursion, list_all, filter, range_with_len}
+use Rattle.std.specs.Prelude.{Option, None, Some, IsTrue, ◌&&◌, slice_get, slice_set, unwrap_or, if◌then◌else◌}
+use Rattle.std.specs.List.{AllByRecursion, list_all, range_with_len}
 use Rattle.std.specs.Option.{is_some}
 use Rattle.std.specs.Ordering.{int_eq}
 use Rattle.std.proofs.lemmas.Int.{ints}
@@ -16,7 +16,6 @@ use Rattle.linear_terms.specs.declared.col.Col.TheVariants.{At, Aux}
 use Rattle.linear_terms.specs.Expressions.{Made, ◌⊞◌, column}
 use Rattle.linear_terms.specs.Polynomial.{Polynomial, constant_of, column_of}
 use Rattle.linear_terms.specs.Replacement.{put_in}
-use Rattle.linear_terms.proofs.Columns.{EachColumn}
 use Rattle.linear_terms.proofs.Values.{int_eq-zero}
 use Rattle.transition_formula.specs.Transition.{Transition, every_column}
 use Rattle.transition_formula.proofs.ColumnTests.{both, columns_from_test}

@@ -1,5 +1,5 @@
 -- Words of the proofs of the calls.
-use Rattle.std.specs.Prelude.{◌≡◌, ℕ, ◌<◌, ◌^◌, ℤ, pos, negsuc, Result, Ok, Err, Option, None, Some, ◌++◌, List, [], ◌∷◌, length, map, All, Bool, true, ◌==◌, if◌then◌else◌}
+use Rattle.std.specs.Prelude.{◌≡◌, ℕ, ◌<◌, ◌^◌, pos, negsuc, Result, Ok, Err, Option, None, Some, ◌++◌, List, [], ◌∷◌, length, map, All, Bool, true, ◌==◌, if◌then◌else◌}
 use Rattle.std.specs.List.{AllByRecursion, list_any, range_with_len}
 use Rattle.std.specs.declared.cmp.Ordering.TheVariants.{Greater}
 use Rattle.linear_terms.specs.declared.col.Col.{Col}

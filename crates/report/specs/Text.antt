@@ -1,5 +1,5 @@
 -- The text of a report.
-use Rattle.std.specs.Prelude.{ℕ, ℤ, pos, ◌+◌, ◌-◌, Bool, true, false, ◌&&◌, nat_lt, decimal, Option, None, Some, List, [], ◌∷◌, ◌++◌, length, codes, map, take, if◌then◌else◌, slice_get, slice_index_or}
+use Rattle.std.specs.Prelude.{ℕ, ℤ, ◌+◌, ◌-◌, Bool, true, false, ◌&&◌, nat_lt, decimal, Option, None, Some, List, [], ◌∷◌, ◌++◌, length, codes, map, take, if◌then◌else◌, slice_get, slice_index_or}
 use Rattle.std.specs.List.{flat_map, count_by, list_any, range_with_len}
 use Rattle.std.specs.Str.{bytes_eq}
 use Rattle.std.specs.Fmt.{signed_decimal}

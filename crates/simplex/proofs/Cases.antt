@@ -28,7 +28,7 @@ use Rattle.simplex.specs.Answers.{IsWide}
 use Rattle.simplex.specs.Refusal.{LeavesBits, IsRefusalIn}
 use Rattle.simplex.specs.Rows.{kinds_of}
 use Rattle.simplex.specs.SearchSteps.{far_step}
-use Rattle.simplex.specs.Suprema.{with_goal, goal_frame, own_frame, IsSupremumOf}
+use Rattle.simplex.specs.Suprema.{with_goal, own_frame, IsSupremumOf}
 use Rattle.simplex.proofs.Stops.{names_none}
 use Rattle.simplex.proofs.WiderColumns.{small_goal}
 use Rattle.simplex.specs.declared.goals.Bounds.{Bounds}

@@ -1,5 +1,5 @@
 -- Which step a search stopped at, from the stated answers of its calls.
-use Rattle.std.proofs.Common.{◌≡◌, ℕ, ◌+◌, Bool, List, [], drop, length, get_or, sym, subst, ap, ◌∙◌, Result, Ok, Err, ℤ}
+use Rattle.std.proofs.Common.{◌≡◌, ℕ, ◌+◌, Bool, List, [], drop, get_or, sym, ap, ◌∙◌, Result, Ok, Err, ℤ}
 use Rattle.std.specs.Prelude.{IfErr}
 use Rattle.items.specs.Gives.{Gives, ◌>>=◌}
 use Rattle.whole_numbers.specs.declared.wide.Wide as Step

@@ -1,6 +1,6 @@
 -- Which step a search for relations stopped at, from the stated answers of its calls.
-use Rattle.std.proofs.Common.{◌≡◌, ◌∙◌, ℕ, ◌+◌, ◌^◌, ◌<◌, ◌≤◌, Bool, true, false, not, List, [], ◌∷◌, ◌++◌, take, drop, length, get_or, Some, Result, Ok, Err, refl, sym, ap, subst, arith, ℤ, pos, negsuc}
-use Rattle.std.specs.Prelude.{slice_get, IfErr, if◌then◌else◌}
+use Rattle.std.proofs.Common.{◌≡◌, ◌∙◌, ℕ, ◌+◌, Bool, true, not, List, [], ◌∷◌, ◌++◌, take, drop, length, get_or, Result, Ok, Err, sym, ap, subst, ℤ, pos, negsuc}
+use Rattle.std.specs.Prelude.{IfErr, if◌then◌else◌}
 use Rattle.std.specs.Ordering.{int_eq}
 use Rattle.items.specs.Gives.{◌>>=◌, err_map, Gives}
 use Rattle.whole_numbers.specs.declared.wide.Wide as Step
@@ -11,19 +11,19 @@ use Rattle.linear_terms.specs.Polynomial.{Polynomial, constant_of}
 use Rattle.linear_terms.specs.TermError.{wide}
 use Rattle.farkas_check.specs.Points.{ratio_at, ratio_value}
 use Rattle.farkas_check.specs.Ratios.{Fraction, whole}
-use Rattle.farkas_check.specs.Relations.{entry, term_count, unknown_count}
+use Rattle.farkas_check.specs.Relations.{entry, unknown_count}
 use Rattle.farkas_check.specs.Stratum.{terms_of, minus_value}
 use Rattle.farkas_check.specs.declared.stratum.Change.{Change}
 use Rattle.farkas_check.specs.declared.stratum.Spot.{Spot}
 use Rattle.simplex.specs.CalmStrata.{IsRefusalOf, IsLinesStep, lines_choice, lines_ratio, lines_relation, IsUnitStep, AreSpotsOf}
-use Rattle.simplex.specs.Differences.{with_multiples, IsDifferenceOf}
+use Rattle.simplex.specs.Differences.{with_multiples}
 use Rattle.simplex.specs.Exchange.{cause, line_multiple, choices_of}
 use Rattle.simplex.specs.Points.{IsSpotAt}
 use Rattle.simplex.specs.Raise.{sign_of}
-use Rattle.simplex.specs.SearchSteps.{StopsBy, StopsAt}
+use Rattle.simplex.specs.SearchSteps.{StopsBy}
 use Rattle.simplex.specs.Spots.{common_denominator, numerators_over, sums_of, values_of, AreSideValues, IsSpotLine, AreSpots, IsRelationOf, IsSpotTableau, multiples_from}
 use Rattle.simplex.specs.Strata.{IsAsked, IsCaseOf, AreKnown}
-use Rattle.simplex.specs.StrataSteps.{numerators_of, line_at, difference_from, difference_made, point_beyond, StopsSum, AreSpotsIn, IsTableauOfSpots, IsCandidate, IsSearchStep, spot_step, choice_step, ratio_step, relation_step, unit_step, difference_step}
+use Rattle.simplex.specs.StrataSteps.{numerators_of, line_at, difference_from, difference_made, point_beyond, AreSpotsIn, IsTableauOfSpots, IsCandidate, IsSearchStep, spot_step, choice_step, ratio_step, relation_step, unit_step, difference_step}
 use Rattle.simplex.specs.declared.differences.StrataQuestion.{StrataQuestion}
 use Rattle.simplex.specs.declared.spots.Spots.{Spots}
 use Rattle.simplex.specs.declared.stop.SearchStop.{SearchStop}

@@ -1,5 +1,5 @@
 -- A text without faults has a well-formed program.
-use Rattle.std.proofs.Common.{◌≡◌, ℕ, ◌+◌, ◌≤◌, ◌<◌, Bool, true, false, Option, None, Some, List, [], ◌∷◌, ◌++◌, length, map, take, refl, sym, ap, subst, arith, ◌∙◌, Result, Ok, Err}
+use Rattle.std.proofs.Common.{◌≡◌, ℕ, ◌+◌, ◌≤◌, ◌<◌, Bool, true, false, Option, Some, List, [], ◌∷◌, ◌++◌, length, map, take, refl, sym, ap, subst, arith, ◌∙◌, Result, Ok, Err}
 use Rattle.std.proofs.Common.{length-append, append_assoc}
 use Rattle.std.proofs.lemmas.List.{length-map}
 use Rattle.std.proofs.lemmas.List.Elements.{All-from_recursion}
@@ -17,14 +17,14 @@ use Rattle.syntax_tree.specs.declared.tree.Param.{Param}
 use Rattle.syntax_tree.specs.Code.{code_of}
 use Rattle.syntax_tree.specs.SourceLine.{source_lines_of}
 use Rattle.syntax_tree.specs.WellFormed as fit
-use Rattle.syntax_tree.specs.WellFormed.{code_fits, IsProcFit, IsWellFormed, code_checks, has_name, procs_checks, width_of}
+use Rattle.syntax_tree.specs.WellFormed.{code_fits, IsProcFit, IsWellFormed, has_name, procs_checks, width_of}
 use Rattle.typing.specs.declared.env.Env.{Env}
 use Rattle.typing.specs.declared.env.LoopPlace.TheVariants.{Outside}
 use Rattle.typing.specs.declared.error.TypeError.{TypeError}
 use Rattle.typing.specs.Elaborated.{checks_in, elaborated_program, globals_of, main_from, proc_of, procs_of}
 use Rattle.typing.specs.Env.{with_variable}
 use Rattle.items.specs.Gives.{Gives}
-use Rattle.typing.specs.Faults.{body_faults, cause, declaration_faults, elaboration_of, faults_of, least_of, lesser, unless_fault, parameter_faults, params_faults, procs_faults}
+use Rattle.typing.specs.Faults.{body_faults, cause, declaration_faults, elaboration_of, faults_of, parameter_faults, params_faults, procs_faults}
 use Rattle.typing.specs.Lines.{after_all, all_checks_of, all_columns_of, all_statements_of}
 use Rattle.syntax_tree.specs.SourceOperators.{lines_have_fewer}
 use Rattle.typing.specs.Operators.{items_have_few}

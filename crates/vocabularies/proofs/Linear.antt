@@ -1,7 +1,7 @@
 -- The terms that are harvested are linear, without a constant, and over the columns of their
 -- procedure.
-use Rattle.std.proofs.Common.{◌≡◌, ℕ, ◌+◌, ◌<◌, ◌≤◌, List, [], ◌∷◌, ◌++◌, length, Bool, true, false, cond, map, Option, Some, None, Result, Ok, Err, refl, sym, ap, subst, ◌∙◌, arith, zero, suc, ℤ, pos, negsuc, ◌*ℤ◌}
-use Rattle.std.specs.Prelude.{IsTrue, int_div, option_to_list, unsigned_abs, take, ◌&&◌, ◌==◌, nat_lt, nat_le, is_some, slice_get, min}
+use Rattle.std.proofs.Common.{◌≡◌, ℕ, ◌+◌, ◌<◌, ◌≤◌, List, [], ◌∷◌, ◌++◌, length, Bool, true, false, cond, None, Result, Ok, Err, refl, sym, ap, subst, ◌∙◌, arith, zero, suc, ℤ, pos, negsuc, ◌*ℤ◌}
+use Rattle.std.specs.Prelude.{IsTrue, int_div, option_to_list, unsigned_abs, take, ◌&&◌, ◌==◌, nat_lt, nat_le, is_some, slice_get}
 use Rattle.std.proofs.lemmas.List.{length-take}
 use Rattle.std.specs.List.{AllByRecursion, list_all}
 use Rattle.std.specs.Map.{values_of}
@@ -11,7 +11,7 @@ use Rattle.std.proofs.lemmas.Bool.Decides.{Decides-eqb}
 use Rattle.std.proofs.lemmas.Int.{ints}
 use Rattle.items.specs.Gives.{◌>>=◌}
 use Rattle.items.proofs.Gives.{on_ok}
-use Rattle.items.proofs.Each.{each-append, each-map, each-more, each-both, each_from_test}
+use Rattle.items.proofs.Each.{each-append, each-map, each-more}
 use Rattle.whole_numbers.specs.Divisors.{divides, gcd_of_all}
 use Rattle.linear_terms.specs.declared.col.Col.{Col}
 use Rattle.linear_terms.specs.declared.col.Col.TheVariants.{At, Aux}
@@ -19,21 +19,20 @@ use Rattle.linear_terms.specs.declared.error.TermError.{TermError}
 use Rattle.linear_terms.specs.declared.row.Kind.TheVariants.{Equal}
 use Rattle.linear_terms.specs.declared.row.Normal.{Normal}
 use Rattle.linear_terms.specs.declared.row.Normal.TheVariants.{Constant, Kept}
-use Rattle.linear_terms.specs.declared.row.Row.{Row}
-use Rattle.linear_terms.specs.Expressions.{Made, ◌⊞◌, ◌⊟◌, ◌⊠◌, negative_of, whole, column}
+use Rattle.linear_terms.specs.Expressions.{Made, ◌⊟◌, whole, column}
 use Rattle.linear_terms.specs.Operations.{with_term, times_each, multiple_of, sum_of_polys, difference_of_polys, product_of_polys}
 use Rattle.linear_terms.specs.Polynomial.{Terms, Polynomial, IsCanonical, constant_of, column_of, without_constant}
 use Rattle.linear_terms.specs.Equality.{poly_eq}
 use Rattle.linear_terms.specs.Row.{divided_terms, reduced_row, with_positive_first, starts_negative, normal_form, is_within, HasCanonicalTerms}
 use Rattle.linear_terms.specs.TermError.{times}
-use Rattle.linear_terms.proofs.Canonical.{IsCanonical-nil, IsCanonical-column, IsCanonical-sum_of_polys, IsCanonical-multiple_of, IsCanonical-difference_of_polys, IsCanonical-product_of_polys}
+use Rattle.linear_terms.proofs.Canonical.{IsCanonical-nil, IsCanonical-column, IsCanonical-sum_of_polys, IsCanonical-multiple_of, IsCanonical-product_of_polys}
 use Rattle.linear_terms.proofs.Columns.{EachColumn, sum_of_polys-each, multiple_of-each, product_of_polys-each}
 use Rattle.linear_terms.proofs.Normals.{normal_form-HasCanonicalTerms, normal_form-none, normal_form-some}
 use Rattle.linear_terms.proofs.Values.{times-value}
 use Rattle.transition_formula.specs.Transition.{is_below}
-use Rattle.transition_formula.proofs.Fitting.{below-true, true-below}
+use Rattle.transition_formula.proofs.Fitting.{true-below}
 use Rattle.polyhedra.specs.Directions.{distinct}
-use Rattle.polyhedra.specs.Vocabulary.{IsDirection, IsDirectionOver}
+use Rattle.polyhedra.specs.Vocabulary.{IsDirectionOver}
 use Rattle.polyhedra.proofs.DirectionShapes.{each-distinct}
 use Rattle.syntax_tree.specs.declared.program.Proc.{Proc}
 use Rattle.syntax_tree.specs.declared.program.Program.{Program}

@@ -6,7 +6,7 @@ use Rattle.std.specs.Prelude.{nat_lt, take}
 use Rattle.std.specs.List.{list_any}
 use Rattle.linear_terms.specs.Equality.{poly_eq}
 use Rattle.linear_terms.specs.Polynomial.{Polynomial}
-use Rattle.polyhedra.specs.Directions.{with_new, distinct}
+use Rattle.polyhedra.specs.Directions.{with_new}
 use Rattle.syntax_tree.specs.declared.core_expr.Core.{Core}
 use Rattle.syntax_tree.specs.declared.stmt.Stmt.{Stmt}
 use Rattle.syntax_tree.specs.Term.{term_of}

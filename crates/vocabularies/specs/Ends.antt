@@ -1,7 +1,7 @@
 -- The vocabularies of a program: for the states of a procedure, for the entry and the end of its
 -- summary, for pairs of entry and exit, and for where the program starts.
 use Rattle.std.specs.Prelude.{ℕ, ◌+◌, List, [], ◌∷◌, ◌++◌, length, Bool, true, false}
-use Rattle.std.specs.List.{filter, list_all, range_with_len}
+use Rattle.std.specs.List.{filter, range_with_len}
 use Rattle.linear_terms.specs.Polynomial.{Polynomial}
 use Rattle.transition_formula.specs.Transition.{every_column, is_below}
 use Rattle.polyhedra.specs.Vocabulary.{Vocabulary}

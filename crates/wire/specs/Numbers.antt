@@ -1,6 +1,6 @@
 -- Numbers as texts: a text is read as a number exactly where it is the one that is written for it,
 -- so that no number has two texts.
-use Rattle.std.specs.Prelude.{ℕ, ℤ, pos, ◌&&◌, ◌==◌, Bool, not, Option, None, Some, option_map, option_and_then, List, [], ◌∷◌, ◌++◌, position, if◌then◌else◌}
+use Rattle.std.specs.Prelude.{ℕ, ℤ, pos, ◌&&◌, ◌==◌, Bool, not, Option, None, Some, option_map, option_and_then, List, position, if◌then◌else◌}
 use Rattle.std.specs.Fmt.{signed_decimal}
 use Rattle.std.specs.List.{before_first, after_first}
 use Rattle.std.specs.Ordering.{int_eq}

@@ -1,4 +1,4 @@
-use Rattle.std.proofs.Common.{rules, length, ◌-◌}
+use Rattle.std.proofs.Common.{length, ◌-◌}
 use Rattle.cones.proofs.Making.{made_behind-wide}
 use Rattle.cones.proofs.projecting.+clearing.Goals as goal
 

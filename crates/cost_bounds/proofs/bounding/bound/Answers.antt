@@ -1,5 +1,4 @@
 use Rattle.std.specs.Prelude.{Result, Ok, Err, IfOk}
-use Rattle.linear_terms.specs.declared.row.Case.{Case}
 use Rattle.posing.specs.declared.error.WorkError.{WorkError}
 use Rattle.cost_bounds.specs.declared.cost.Cost.{Cost}
 use Rattle.cost_bounds.specs.Says.{IsMetByCase, Says}

@@ -1,4 +1,4 @@
-use Rattle.std.proofs.Common.{ℕ, ◌≤◌, ◌<◌, length, refl, sym, ap, arith}
+use Rattle.std.proofs.Common.{◌≤◌, ◌<◌, length, refl, sym, ap, arith}
 use Rattle.std.proofs.lemmas.Option.{slice_get_past}
 use Rattle.posing.proofs.Steps.{at_end, in_other_words}
 use Rattle.cost_bounds.specs.Small.{entry_trial, without_entry}

@@ -10,13 +10,12 @@ use Rattle.syntax_tree.specs.WellFormed.{width_of}
 use Rattle.vocabularies.specs.Ends.{entry_of, entry_width, full_of}
 use Rattle.vocabularies.specs.Ends as ends
 use Rattle.leaf_cases.specs.Conditions.{IsKnown}
-use Rattle.leaf_cases.specs.Summaries.{SummaryIsMet}
 use Rattle.checked_tree.specs.Evaluation.{settled_and_fitted}
 use Rattle.checked_tree.specs.Law.{IsBetweenEnds, IsEnd, IsFrom}
 use Rattle.proc_summary.specs.Summary.{ends_of, exit_formula, exit_places, summary_from, projection_of}
 use Rattle.proc_summary.proofs.CratesBelow.{some_at}
 use Rattle.proc_summary.proofs.Graphs.{columns-is, full-columns}
-use Rattle.proc_summary.proofs.ExitSummaries.{entry-columns, entry-end, exit-end, summary-known, summary-met, told-as, told-between, told-is, told-solved}
+use Rattle.proc_summary.proofs.ExitSummaries.{entry-columns, entry-end, exit-end, summary-known, told-as, told-between, told-is, told-solved}
 use Rattle.proc_summary.proofs.summary.exit_summary.Goals as goal
 
 pub exit_projection-requires : goal.exit_projection-requires

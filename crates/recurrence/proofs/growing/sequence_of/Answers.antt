@@ -1,4 +1,4 @@
-use Rattle.std.proofs.Common.{◌≡◌, length, sym, subst, ap, ◌∙◌}
+use Rattle.std.proofs.Common.{length, sym, subst, ap, ◌∙◌}
 use Rattle.polyhedra.specs.Bounds.{IsCovered}
 use Rattle.linear_terms.specs.Polynomial.{mono_of}
 use Rattle.recurrence.specs.Products.{growth, grown}

@@ -1,7 +1,7 @@
-use Rattle.std.proofs.Common.{◌≡◌, All, length, map, sym, subst, ap, ◌∙◌}
+use Rattle.std.proofs.Common.{All, length, sym, subst, ◌∙◌}
 use Rattle.linear_terms.specs.Replacement.{IsBelow}
 use Rattle.recurrence.specs.Words.{AreCovered}
-use Rattle.recurrence.specs.Products.{sequence_of, columns_after_turn, known_products}
+use Rattle.recurrence.specs.Products.{columns_after_turn}
 use Rattle.recurrence.proofs.KnownCoverage.{turned-covered, products-covered}
 use Rattle.recurrence.proofs.growing.sequences.Goals as goal
 

@@ -1,4 +1,4 @@
-use Rattle.std.proofs.Common.{◌≤◌, List, length, filter, arith, subst, sym, ◌∙◌}
+use Rattle.std.proofs.Common.{◌≤◌, List, length, arith, subst, sym, ◌∙◌}
 use Rattle.linear_terms.specs.declared.col.Col.{Col}
 use Rattle.polyhedra.proofs.Coverage.{filter-short}
 use Rattle.recurrence.specs.Products.{is_before}

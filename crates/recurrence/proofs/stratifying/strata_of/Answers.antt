@@ -1,6 +1,5 @@
-use Rattle.std.proofs.Common.{◌≡◌, List, [], length, fold, refl, sym, ap, subst, ◌∙◌, true}
-use Rattle.std.specs.Prelude.{Option, ◌&&◌, unwrap_or}
-use Rattle.linear_terms.specs.Polynomial.{Polynomial}
+use Rattle.std.proofs.Common.{◌≡◌, [], length, fold, refl, sym, ap, subst, ◌∙◌}
+use Rattle.std.specs.Prelude.{◌&&◌, unwrap_or}
 use Rattle.posing.proofs.Following.{stops}
 use Rattle.posing.proofs.Steps.{value_first, error_first, at_end}
 use Rattle.recurrence.specs.Products.{unmodified_columns, with_term, with_terms}

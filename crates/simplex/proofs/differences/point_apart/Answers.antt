@@ -1,4 +1,4 @@
-use Rattle.std.proofs.Common.{rules, ◌≡◌, ◌∙◌, List, Ok, Err, true, pos, ap, refl, ℤ}
+use Rattle.std.proofs.Common.{rules, ◌≡◌, List, Ok, Err, pos, ap, ℤ}
 use Rattle.std.specs.Prelude.{IfErr}
 use Rattle.std.specs.Ordering.{int_eq}
 use Rattle.items.specs.Gives.{Gives}

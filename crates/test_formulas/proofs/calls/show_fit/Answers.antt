@@ -1,6 +1,5 @@
 use Rattle.std.proofs.Common.{arith, subst, sym, ◌∙◌}
 use Rattle.transition_formula.specs.Transition.{IsTransition}
-use Rattle.polyhedra.specs.Laws.{IsBetween}
 use Rattle.test_formulas.proofs.calls.show_fit.Goals as goal
 
 pub fit-requires : goal.fit-requires

@@ -1,4 +1,4 @@
-use Rattle.std.proofs.Common.{◌≡◌, ◌<◌, arith, refl, ap, ◌∙◌, length}
+use Rattle.std.proofs.Common.{◌≡◌, ◌<◌, arith, refl, ap, length}
 use Rattle.test_graphs.proofs.Knowing.{all_known, at_place, known_more}
 use Rattle.test_graphs.proofs.leaves.are_known.Goals as goal
 

@@ -1,4 +1,4 @@
-use Rattle.std.proofs.Common.{List, sym, ap, ◌∙◌}
+use Rattle.std.proofs.Common.{sym, ap, ◌∙◌}
 use Rattle.std.specs.List.{list_any}
 use Rattle.linear_terms.specs.Equality.{poly_eq}
 use Rattle.vocabularies.proofs.Rooms.{term-new, term-known}

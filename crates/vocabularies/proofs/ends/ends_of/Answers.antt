@@ -1,4 +1,4 @@
-use Rattle.std.proofs.Common.{◌≡◌, ◌≤◌, ℕ, List, length, arith, sym, subst, ◌∙◌, ap}
+use Rattle.std.proofs.Common.{◌≤◌, List, length, sym, subst, ◌∙◌, ap}
 use Rattle.std.specs.List.{AllByRecursion}
 use Rattle.linear_terms.specs.Polynomial.{Polynomial}
 use Rattle.polyhedra.specs.Vocabulary.{IsDirectionOver}

@@ -1,4 +1,4 @@
-use Rattle.std.proofs.Common.{◌≡◌, length, IfOk, subst, sym, ◌∙◌}
+use Rattle.std.proofs.Common.{◌≡◌, length, IfOk, subst}
 use Rattle.vocabularies.specs.Ends.{plain_vocabulary, terms_below}
 use Rattle.vocabularies.specs.Harvest.{harvest_of}
 use Rattle.vocabularies.proofs.ends.exit_of.Goals as goal

@@ -1,5 +1,5 @@
 use Rattle.std.proofs.Common.{◌≡◌, ◌+◌, IfOk, subst}
-use Rattle.vocabularies.specs.Ends.{entry_width, exit_width, plain_vocabulary, terms_below}
+use Rattle.vocabularies.specs.Ends.{exit_width, plain_vocabulary, terms_below}
 use Rattle.vocabularies.specs.Harvest.{harvest_of}
 use Rattle.vocabularies.proofs.ends.pair_of.Goals as goal
 
