@@ -7,14 +7,26 @@ from summary import exit_columns
 
 MOST_BOUNDS = 100_000  # pairs of a direction and a case of a step
 MOST_JUDGEMENTS = 200_000  # pairs of a row and a case of a step
+MOST_MULTIPLIERS = 6_000_000  # in answers by which steps are made anew
 MOST_MAKINGS = 64  # of steps
 
 greatest, show_note = reached.greatest, report.show_note
 
 
+def multipliers(answer):
+    """How many multipliers an answer has: one for each row of a case that it is about."""
+    if answer[0] == "yes":
+        return len(answer[1])
+    if answer[0] == "bound":
+        return sum(len(by) for _, _, by in answer[2])
+    if answer[0] == "basis":
+        return sum(len(tie[1]) + len(tie[3]) for _, _, _, ties in answer[1] for tie in ties)
+    return 0
+
+
 class Search(reached.Reached):
     def __init__(self, *given):
-        self.bounds, self.judgements, self.is_cut = MOST_BOUNDS, MOST_JUDGEMENTS, False
+        self.bounds, self.judgements, self.multipliers, self.is_cut = MOST_BOUNDS, MOST_JUDGEMENTS, MOST_MULTIPLIERS, False
         super().__init__(*given)
         if self.is_cut:
             self.work.notes.append(("search",))
@@ -45,10 +57,13 @@ class Search(reached.Reached):
     def made(self, procs, rows):
         """The arrivals of steps that are made of these procedures."""
         work = Work(Finder(), "search")
-        return {p: [(s.target, reached.Arrival(s, case, self.program.width(p))) for s in self.steps_of(p, rows, work) for case in s.formula.cases] for p in procs}
+        made = {p: [(s.target, reached.Arrival(s, case, self.program.width(p))) for s in self.steps_of(p, rows, work) for case in s.formula.cases] for p in procs}
+        self.taken = sum(multipliers(answer) for answer in work.answers)
+        return made
 
     def kept(self, rows, arrivals, callers):
-        """Drops rows, and makes steps anew where rows at exits fell; whether it comes to an end."""
+        """Drops rows, and makes steps anew where rows at exits fell, of which none is left where that was done too often; whether it
+        comes to an end."""
         drops, seen = {}, {p: {} for p in arrivals}
         for _ in range(MOST_MAKINGS):
             before = {place: len(it) for place, it in rows.items()}
@@ -57,9 +72,18 @@ class Search(reached.Reached):
             stale = {p for place, it in rows.items() if place[1] == "exit" and len(it) < before[place] for p in callers[place[0]]}
             if not stale:
                 return True
+            if self.multipliers <= 0:
+                break
             arrivals.update(self.made(stale, rows))
+            self.multipliers -= self.taken
             seen.update((p, {}) for p in stale)
-        return False
+        self.is_cut = True
+        for place in rows:
+            if place[1] == "exit":
+                rows[place] = []
+        arrivals.update(self.made(list(arrivals), rows))
+        seen.update((p, {}) for p in arrivals)
+        return self.dropped_by(rows, arrivals, drops, seen)
 
     def dropped_by(self, rows, arrivals, drops, seen):
         """Asks cases where rows were dropped at their begin, until none is dropped; whether the judgements are enough."""

@@ -5,8 +5,10 @@ ghost use Rattle.point_rounds.specs.Table.{IsTable};
 use crate::arrivals::all_arrivals;
 use crate::counts::{MOST_MAKINGS, SearchLeft};
 use crate::dropping::{CaseSeen, drop_rows, unseen};
-use crate::places::{PlaceNumbers, RowsLeft, clear, empty_places, entry_numbers, rows_left};
-use crate::steps::{OwnSteps, make_anew, mark_stale, no_steps};
+use crate::places::{
+    PlaceNumbers, RowsLeft, clear, empty_places, entry_numbers, put_left, rows_left,
+};
+use crate::steps::{OwnSteps, make_all_anew, make_anew, mark_stale, no_steps};
 use crate::strongest::strongest;
 use crate::tables::{PlacesLeft, proc_count, table_of};
 use crate::texts::program_texts;
@@ -90,7 +92,8 @@ fn take_candidates(
 }
 
 /// Drops rows until all that are left are kept by steps that are made by them: where rows fall at an
-/// exit, those of its callers are made anew. It tells whether it came to an end.
+/// exit, those of its callers are made anew, and where that was done too often, no row is left at an
+/// exit. It tells whether it came to an end.
 fn keep_rows(
     alloc: Global,
     source: RoundSource,
@@ -111,9 +114,16 @@ fn keep_rows(
         if !mark_stale(source, &before, &now, steps) {
             return Ok(true);
         }
-        make_anew(alloc, source, PlacesLeft { numbers, places }, steps)?;
+        if left.multipliers == 0 {
+            break;
+        }
+        let multipliers = make_anew(alloc, source, PlacesLeft { numbers, places }, steps)?;
+        left.multipliers = left.multipliers.saturating_sub(multipliers);
     }
-    Ok(false)
+    left.is_cut = true;
+    drop_exits(alloc, source, numbers, places);
+    make_all_anew(alloc, source, PlacesLeft { numbers, places }, steps)?;
+    drop_by_steps(alloc, source, numbers, steps, &mut seen, places, left)
 }
 
 fn nothing_seen(alloc: Global, steps: &[OwnSteps]) -> Result<Vec<Vec<CaseSeen>>, AllocError> {
@@ -142,6 +152,17 @@ fn drop_by_steps(
         }
     }
     drop_rows(alloc, &arrivals, seen, places, &mut left.judgements)
+}
+
+/// Drops all rows at exits.
+fn drop_exits(alloc: Global, source: RoundSource, numbers: PlaceNumbers, places: &mut [RowsLeft])
+    requires { IsRoundSource source }
+{
+    let procs = proc_count(source);
+    for proc in 0..procs {
+        let number = numbers.of(RowPlace::AtExit { proc });
+        put_left(places, number, RowsLeft::none(alloc, 0));
+    }
 }
 
 /// How many rows there are at the exit of each procedure.

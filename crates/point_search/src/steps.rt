@@ -3,6 +3,7 @@ ghost use Rattle.point_rounds.specs.Source.{IsRoundSource};
 ghost use Rattle.point_rounds.specs.Table.{IsTable};
 ghost use Rattle.point_search.specs.Parts.{part_of};
 
+use crate::counts::multiplier_count;
 use crate::tables::{PlacesLeft, table_of};
 use finder::Finder;
 use flow_graph::{Act, Graph};
@@ -32,36 +33,56 @@ pub(crate) fn no_steps(alloc: Global, procs: u32) -> Result<Vec<OwnSteps>, Alloc
     Ok(all)
 }
 
-/// Makes those steps anew that are to be, by what is left at exits.
+/// Makes those steps anew that are to be, by what is left at exits, and tells how many multipliers
+/// the answers have that this took.
 pub(crate) fn make_anew(
     alloc: Global,
     source: RoundSource,
     left: PlacesLeft,
     steps: &mut [OwnSteps],
-) -> Result<(), AllocError>
+) -> Result<usize, AllocError>
     requires { IsRoundSource source }
 {
     let table = table_of(alloc, source, left)?;
+    let mut multipliers: usize = 0;
     for own in steps.iter_mut() {
         if own.is_stale {
-            own.made = steps_from(alloc, source, own.proc, &table)?;
+            let mut log = Log::new(alloc);
+            own.made = steps_from(alloc, source, own.proc, &table, &mut log)?;
+            let own_count = multiplier_count(log.answers.as_slice());
+            multipliers = multipliers.saturating_add(own_count);
         }
     }
-    Ok(())
+    Ok(multipliers)
 }
 
-/// The steps from the points of a procedure.
+/// Makes all steps anew.
+pub(crate) fn make_all_anew(
+    alloc: Global,
+    source: RoundSource,
+    left: PlacesLeft,
+    steps: &mut [OwnSteps],
+) -> Result<usize, AllocError>
+    requires { IsRoundSource source }
+{
+    for own in steps.iter_mut() {
+        own.is_stale = true;
+    }
+    make_anew(alloc, source, left, steps)
+}
+
+/// The steps from the points of a procedure. The log takes the answers.
 fn steps_from(
     alloc: Global,
     source: RoundSource,
     proc: u32,
     table: &PointTable,
+    log: &mut Log,
 ) -> Result<Items<StepFrom>, AllocError>
     requires source { IsRoundSource source }
     requires table { IsTable source.program.now table.now }
 {
     let mut finder = Finder::new(alloc);
-    let mut log = Log::new(alloc);
     let from = count_before(source.states, proc);
     let to = count_before(source.states, proc.saturating_add(1));
     let own = RoundSource {
@@ -71,7 +92,7 @@ fn steps_from(
         known: source.known,
         states: part_of(source.states, from, to),
     };
-    match steps_by_table(alloc, own, table, &mut finder, &mut log) {
+    match steps_by_table(alloc, own, table, &mut finder, log) {
         Ok(steps) => Ok(steps),
         Err(_memory) => Err(AllocError),
     }
