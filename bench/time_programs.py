@@ -2,8 +2,9 @@
 """Times the built program on the texts of `bench/texts`, and on made texts that grow: chains of procedures with nested loops, one
 loop over more and more variables that branches, loops one behind the other, loops inside each other, recursion over more and more
 globals, a ring of procedures each of which calls the next one, procedures of many locals with loops of many branches, and procedures
-with loops of branches, or with nested loops, over shared globals, called in a loop, in which `prove` looks for rows at points. For
-each text: its lines, the cost of `analyse`, of `certify` and of `check` of what that printed, and the number of answers. Where a made
+with loops of branches, or with nested loops, over shared globals, called in a loop, in which `prove` looks for rows at points; and
+texts by seeds, of up to 150 and of up to 60 lines, whose procedures branch over so many globals that `prove` takes long. For each
+text: its lines, the cost of `analyse`, of `certify` and of `check` of what that printed, and the number of answers. Where a made
 text has twice the size of one before it, the growth of the costs is told as an exponent: 1 is linear, 2 quadratic.
 
 usage: time_programs.py [--instructions] [--beside WORD] [--only NAME] PROGRAM
@@ -107,10 +108,47 @@ def nests(count):
     return text + f"  }}\n  assert({names[0]} <= t);\n}}\n"
 
 
+def dense(seed, most=150):
+    """A text of at most so many lines whose procedures' loops have branches over many globals, made to be dear."""
+    rng = random.Random(seed)
+    names = ["g%d" % k for k in range(rng.randrange(6, 21))]
+    depth, branches, calls, made = rng.choice([1, 2, 2, 3]), rng.randrange(1, 5), rng.choice([.5, .8, 1]), 0
+    text = "".join(f"int {it} = {rng.randrange(3)};\n" for it in names)
+    while True:
+        a, b, c, d = rng.sample(names, 4)
+        own, room = f"int p{made}(int n, int m) {{\n  int i = 0; int s = 0;\n", "  "
+        for level in range(depth):
+            own += f"{room}int {'ijh'[level]} = 0;\n" if level else ""
+            own += f"{room}while ({'ijh'[level]} < {'nmn'[level]}) {{\n"
+            room += "  "
+            own += f"{room}{'ijh'[level]}++;\n"
+            for _ in range(branches if level == depth - 1 else 0):
+                x, y, z = rng.sample(names, 3)
+                own += f"{room}if ({x} < {y}) {x}++; else if ({z} > {'ijh'[level]}) {z}--;\n"
+        own += f"{room}if (s < {d}) s = s + 1;\n"
+        for level in range(depth - 1):
+            room = room[2:]
+            own += f"{room}}}\n"
+            if level == depth - 2:
+                if made and rng.random() < calls:
+                    own += f"{room}if ({d} == i) s = p{rng.randrange(made)}({rng.choice(['i', 'n', 'm'])}, {a});\n"
+                own += f"{room}if (s > {a}) {b} = s;\n"
+        if depth == 1 and made and rng.random() < calls:
+            own += f"{room}if ({d} == i) s = p{rng.randrange(made)}({rng.choice(['i', 'n', 'm'])}, {a});\n"
+        own += "  }\n  assert(s <= n + m);\n  return s;\n}\n"
+        if len((text + own).split("\n")) + made + 7 > most:
+            break
+        text, made = text + own, made + 1
+    text += "int main(void) {\n  int t = 0;\n  while (__VERIFIER_nondet_int()) {\n    t++;\n"
+    text += "".join(f"    {rng.choice(names)} = p{k}(t, {rng.choice(names)});\n" for k in range(made))
+    return text + f"  }}\n  assert({names[0]} <= t);\n}}\n"
+
+
 MADE = [("chain", chain, (1, 2, 4, 8, 16, 32, 64)), ("variables", variables, (2, 4, 8, 12, 16)), ("loops", loops, (5, 10, 20, 40)),
         ("nested", nested, (2, 4, 6, 8, 10)), ("recursion", recursion, (2, 4, 8, 12, 16)),
         ("ring", ring, (16, 32, 64, 128, 256)), ("locals", locals_, (1, 2, 4)),
-        ("shared", shared, (2, 3, 4, 5, 6, 7, 8)), ("nests", nests, (2, 4, 6, 8))]
+        ("shared", shared, (2, 3, 4, 5, 6, 7, 8)), ("nests", nests, (2, 4, 6, 8)),
+        ("dense", dense, (7, 10, 25, 29)), ("dense60", lambda seed: dense(seed, 60), (112, 114, 126))]
 TEXTS = os.path.join(os.path.dirname(os.path.abspath(__file__)), "texts")
 
 
