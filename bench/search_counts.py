@@ -7,7 +7,8 @@ from summary import exit_columns
 
 MOST_BOUNDS = 100_000  # pairs of a direction and a case of a step
 MOST_JUDGEMENTS = 200_000  # pairs of a row and a case of a step
-MOST_MULTIPLIERS = 6_000_000  # in answers by which steps are made anew
+MOST_MULTIPLIERS = 6_000_000  # in answers by which steps are made
+MOST_AT_ONCE = 2_000_000  # in those of one making; with so many the search is given up
 MOST_MAKINGS = 64  # of steps
 
 greatest, show_note = reached.greatest, report.show_note
@@ -26,62 +27,79 @@ def multipliers(answer):
 
 class Search(reached.Reached):
     def __init__(self, *given):
-        self.bounds, self.judgements, self.multipliers, self.is_cut = MOST_BOUNDS, MOST_JUDGEMENTS, MOST_MULTIPLIERS, False
+        self.bounds, self.judgements, self.multipliers = MOST_BOUNDS, MOST_JUDGEMENTS, MOST_MULTIPLIERS
+        self.is_cut = self.is_given_up = False
         super().__init__(*given)
         if self.is_cut:
             self.work.notes.append(("search",))
 
     def found(self):
         program, graphs, count = self.program, self.graphs, len(self.program.procs)
-        callers = [{p for p, g in enumerate(graphs) for n in g.calls() if g.edges[n].act[1] == q} for q in range(count)]
         every = candidates.shared_rows(program)
         by_call = [candidates.by_callers(program, graphs, q) for q in range(count)]
         rows = {(p, "exit"): candidates.exit_rows(program, p, by_call[p][1], every)[: reached.MOST_CANDIDATES] for p in range(count) if p != program.main}
-        arrivals = self.made(range(count), rows)
-        coming = {}
-        for p in range(count):
-            for target, arrival in arrivals[p]:
-                coming.setdefault(target, []).append(arrival)
-        for p, node in self.states:
-            if (p, node) != (program.main, 0):
-                rows[p, node] = self.candidates_at((p, node), coming.get((p, node), []), every, by_call[p][0])
-        for p in range(count):
-            if p != program.main:
-                self.bounds_at_exit(p, coming.get((p, "exit"), []), rows[p, "exit"])
-                del rows[p, "exit"][reached.MOST_CANDIDATES :]
-        if not self.kept(rows, arrivals, callers):
-            self.is_cut = True
+        arrivals = {}
+        if not (self.made(range(count), rows, arrivals) and self.took(rows, arrivals, every, by_call) and self.kept(rows, arrivals)):
+            self.is_cut = self.is_given_up = True
             return {}
         return {place: reached.strongest(kept) for place, kept in rows.items() if kept}
 
-    def made(self, procs, rows):
-        """The arrivals of steps that are made of these procedures."""
-        work = Work(Finder(), "search")
-        made = {p: [(s.target, reached.Arrival(s, case, self.program.width(p))) for s in self.steps_of(p, rows, work) for case in s.formula.cases] for p in procs}
-        self.taken = sum(multipliers(answer) for answer in work.answers)
-        return made
+    def took(self, rows, arrivals, every, by_call):
+        """Takes the candidates at points and the bounds at exits."""
+        coming = {}
+        for p in sorted(arrivals):
+            for target, arrival in arrivals[p]:
+                coming.setdefault(target, []).append(arrival)
+        for p, node in self.states:
+            if (p, node) != (self.program.main, 0):
+                rows[p, node] = self.candidates_at((p, node), coming.get((p, node), []), every, by_call[p][0])
+        for p in range(len(self.program.procs)):
+            if p != self.program.main:
+                self.bounds_at_exit(p, coming.get((p, "exit"), []), rows[p, "exit"])
+                del rows[p, "exit"][reached.MOST_CANDIDATES :]
+        return True
 
-    def kept(self, rows, arrivals, callers):
+    def steps_of(self, p, rows, work):
+        return [] if self.is_given_up else super().steps_of(p, rows, work)
+
+    def verdict(self, *given):
+        return not self.is_given_up and super().verdict(*given)
+
+    def made(self, procs, rows, arrivals):
+        """Makes the arrivals of steps of these procedures; whether their answers do not have too many multipliers."""
+        work = Work(Finder(), "search")
+        for p in procs:
+            arrivals[p] = [(s.target, reached.Arrival(s, case, self.program.width(p))) for s in self.steps_of(p, rows, work) for case in s.formula.cases]
+        taken = sum(multipliers(answer) for answer in work.answers)
+        self.multipliers = max(self.multipliers - taken, 0)
+        return taken < MOST_AT_ONCE
+
+    def kept(self, rows, arrivals):
         """Drops rows, and makes steps anew where rows at exits fell, of which none is left where that was done too often; whether it
         comes to an end."""
-        drops, seen = {}, {p: {} for p in arrivals}
+        called = [{g.edges[n].act[1] for n in g.calls()} for g in self.graphs]
+        drops, seen, stale = {}, {p: {} for p in arrivals}, set()
         for _ in range(MOST_MAKINGS):
             before = {place: len(it) for place, it in rows.items()}
             if not self.dropped_by(rows, arrivals, drops, seen):
                 return False
-            stale = {p for place, it in rows.items() if place[1] == "exit" and len(it) < before[place] for p in callers[place[0]]}
+            fell = {place[0] for place, it in rows.items() if place[1] == "exit" and len(it) < before[place]}
+            stale |= {p for p in arrivals if called[p] & fell}
             if not stale:
                 return True
-            if self.multipliers <= 0:
+            if not self.multipliers:
                 break
-            arrivals.update(self.made(stale, rows))
-            self.multipliers -= self.taken
-            seen.update((p, {}) for p in stale)
+            due = {p for p in stale if not (called[p] - {p}) & stale} or stale
+            if not self.made(due, rows, arrivals):
+                return False
+            stale = stale - due
+            seen.update((p, {}) for p in due)
         self.is_cut = True
         for place in rows:
             if place[1] == "exit":
                 rows[place] = []
-        arrivals.update(self.made(list(arrivals), rows))
+        if not self.made(list(arrivals), rows, arrivals):
+            return False
         seen.update((p, {}) for p in arrivals)
         return self.dropped_by(rows, arrivals, drops, seen)
 

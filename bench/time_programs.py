@@ -3,8 +3,8 @@
 loop over more and more variables that branches, loops one behind the other, loops inside each other, recursion over more and more
 globals, a ring of procedures each of which calls the next one, procedures of many locals with loops of many branches, and procedures
 with loops of branches, or with nested loops, over shared globals, called in a loop, in which `prove` looks for rows at points; and
-texts by seeds, of up to 150 and of up to 60 lines, whose procedures branch over so many globals that `prove` takes long. For each
-text: its lines, the cost of `analyse`, of `certify` and of `check` of what that printed, and the number of answers. Where a made
+texts by seeds, of up to 150 and of up to 60 lines, the last ones also with one statement in a line, whose procedures branch over so
+many globals that `prove` takes long. For each text: its lines, the cost of `analyse`, of `certify` and of `check` of what that printed, and the number of answers. Where a made
 text has twice the size of one before it, the growth of the costs is told as an exponent: 1 is linear, 2 quadratic.
 
 usage: time_programs.py [--instructions] [--beside WORD] [--only NAME] PROGRAM
@@ -108,7 +108,16 @@ def nests(count):
     return text + f"  }}\n  assert({names[0]} <= t);\n}}\n"
 
 
-def dense(seed, most=150):
+def laid_out(text):
+    """The text with one statement in a line."""
+    made = ""
+    for room, line in re.findall(r"^( *)(.*)\n", text, re.M):
+        for part in line.replace("; ", ";\n").split("\n"):
+            made += room + re.sub(r"^((?:else )?if \(.*?\)) (.*;)$", rf"\1\n{room}  \2", part) + "\n"
+    return made
+
+
+def dense(seed, most=150, layout=lambda text: text):
     """A text of at most so many lines whose procedures' loops have branches over many globals, made to be dear."""
     rng = random.Random(seed)
     names = ["g%d" % k for k in range(rng.randrange(6, 21))]
@@ -135,7 +144,7 @@ def dense(seed, most=150):
                 own += f"{room}if (s > {a}) {b} = s;\n"
         if depth == 1 and made and rng.random() < calls:
             own += f"{room}if ({d} == i) s = p{rng.randrange(made)}({rng.choice(['i', 'n', 'm'])}, {a});\n"
-        own += "  }\n  assert(s <= n + m);\n  return s;\n}\n"
+        own = layout(own + "  }\n  assert(s <= n + m);\n  return s;\n}\n")
         if len((text + own).split("\n")) + made + 7 > most:
             break
         text, made = text + own, made + 1
@@ -148,7 +157,8 @@ MADE = [("chain", chain, (1, 2, 4, 8, 16, 32, 64)), ("variables", variables, (2,
         ("nested", nested, (2, 4, 6, 8, 10)), ("recursion", recursion, (2, 4, 8, 12, 16)),
         ("ring", ring, (16, 32, 64, 128, 256)), ("locals", locals_, (1, 2, 4)),
         ("shared", shared, (2, 3, 4, 5, 6, 7, 8)), ("nests", nests, (2, 4, 6, 8)),
-        ("dense", dense, (7, 10, 25, 29)), ("dense60", lambda seed: dense(seed, 60), (112, 114, 126))]
+        ("dense", dense, (7, 10, 25, 29)), ("dense60", lambda seed: dense(seed, 60), (112, 114, 126)),
+        ("laid_out60", lambda seed: dense(seed, 60, laid_out), (235, 253, 302, 349))]
 TEXTS = os.path.join(os.path.dirname(os.path.abspath(__file__)), "texts")
 
 

@@ -1,6 +1,6 @@
 -- The report with what holds at points is true.
-use Rattle.std.proofs.Common.{◌≡◌, ℕ, List, [], Some, ap, subst, ◌∙◌}
-use Rattle.std.specs.Prelude.{IfOk, Result, Ok, Err, map, slice_get}
+use Rattle.std.proofs.Common.{◌≡◌, ℕ, false, List, [], Option, None, Some, ap, subst, ◌∙◌}
+use Rattle.std.specs.Prelude.{IfOk, IfSome, Result, Ok, Err, map, slice_get}
 use Rattle.std.proofs.lemmas.Option.{slice_get_within}
 use Rattle.items.proofs.Each.{each-more}
 use Rattle.syntax_tree.specs.declared.program.Program.{Program}
@@ -11,19 +11,22 @@ use Rattle.leaf_cases.specs.Summaries.{KnowsCallee}
 use Rattle.leaf_cases.proofs.Graphs.{EdgeFits}
 use Rattle.proc_summary.specs.Subject.{own_graph}
 use Rattle.context.proofs.WaysFit.{arcs-fit}
-use Rattle.point_induction.specs.Induction.{AreTrue}
 use Rattle.posing.specs.declared.error.WorkError.{WorkError}
 use Rattle.report.specs.declared.blocks.ProcBlock.{ProcBlock}
 use Rattle.report.specs.Claims.{ReportCovers}
 use Rattle.point_rounds.specs.declared.round.PointRound.{PointRound}
 use Rattle.point_rounds.specs.declared.round.PointState.{PointState}
-use Rattle.point_rounds.specs.Closed.{CoverTable, StatesHold, TellCalls}
-use Rattle.point_rounds.specs.Sayings.{sayings_of_table}
+use Rattle.point_rounds.specs.Closed.{StatesHold, TellCalls}
+use Rattle.point_search.specs.declared.found.FoundTable.{FoundTable}
 use Rattle.analysis.specs.declared.whole.FoundReport.{FoundReport}
 use Rattle.analysis.specs.Claims.{FitsFoundReport, FoundReportHolds}
 use Rattle.point_reports.specs.Claims.{PointRowsAreMet}
 use Rattle.point_reports.specs.declared.whole.PointReport.{PointReport}
-use Rattle.point_reports.specs.Parts.{IsKnownAtPoints, KeepsReport}
+use Rattle.point_reports.specs.Parts.{CoversRound, IsKnownAtPoints, IsTrueRound, KeepsReport}
+
+-- a search that finds no table
+pub no_table : FoundTable
+no_table = record { table = None; is_cut = false }
 
 -- where no rows are told, none have to be true
 pub none-met : (program : Program) → PointRowsAreMet program []
@@ -51,9 +54,11 @@ module _ (program : Program) (made : FoundReport) (formed : IsWellFormed program
         each-more (λ (way : Arc). EdgeFits program (width_of program p) way.act) (λ (way : Arc). KnowsCallee made.known way.act) (λ way fit. callee-known (width_of program p) way.act fit) (own_graph p).arcs (arcs-fit program formed proc p is);
   }
 
-  pub points-known : (states : List PointState) (round : PointRound) (holds : FoundReportHolds program made) → StatesHold program states → CoverTable program made.known states round.steps round.table
-      → AreTrue program (sayings_of_table program round.table) → IsKnownAtPoints program round
-  points-known states round holds reached covered rows = (made.known, states, record { rows = rows; calls = calls-told holds; reached = reached; covered = covered })
+  -- what is known of a round, if there is one
+  pub round-known : (states : List PointState) (round : Option PointRound) (holds : FoundReportHolds program made) → StatesHold program states
+      → IfSome round (CoversRound program made.known states) → IfSome round (IsTrueRound program) → IfSome round (IsKnownAtPoints program)
+  round-known states None holds reached covered rows = tt
+  round-known states (Some round) holds reached covered rows = (made.known, states, record { rows = rows; calls = calls-told holds; reached = reached; covered = covered })
 
 -- what keeps the procedures of a report and where its assertions stand covers the program as it does
 pub report-covers : (program : Program) (before : FoundReport) (r : Result PointReport WorkError) → IfOk r (KeepsReport before) → ReportCovers program before.report → IfOk r (λ (made : PointReport). ReportCovers program made.report)

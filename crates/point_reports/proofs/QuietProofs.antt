@@ -4,6 +4,7 @@ use Rattle.std.specs.Prelude.{if◌then◌else◌, slice_get}
 use Rattle.std.specs.List.{list_all}
 use Rattle.syntax_tree.specs.declared.program.Program.{Program}
 use Rattle.flow_graph.specs.FlowGraph.{CheckPlace, graph_of}
+use Rattle.posing.specs.declared.note.Note.{Note}
 use Rattle.posing.specs.Posing.{Done}
 use Rattle.report.specs.declared.blocks.Judged.{Judged}
 use Rattle.report.specs.Text.{is_proved}
@@ -20,7 +21,7 @@ use Rattle.analysis.specs.Found.{findings_by_plan}
 use Rattle.analysis.specs.Judging.{check_with, checks_of}
 use Rattle.analysis.proofs.Quiet.{IsQuiet, found-quiet, found_report-quiet, quiet-apart_from, quiet-bind, quiet-each}
 use Rattle.point_reports.specs.Again.{judgement_again, judgement_at, judgement_by, judgements_again, judgements_from, with_judgement}
-use Rattle.point_reports.specs.Proof.{points_if_open, proof_by_plan, rounds_on, with_points, without_points}
+use Rattle.point_reports.specs.Proof.{by_round, points_if_open, proof_by_plan, rounds_on, with_points, with_round, without_points}
 
 module _ (program : Program) (left : PointRound) (judged : Judged) where
   by-quiet : (c : CheckAt) (at : Option CheckPlace) → IsQuiet (judgement_by program left judged c at)
@@ -46,6 +47,11 @@ unfolding judgements_again with_judgement
 all_again-quiet program left judged =
     quiet-each _ [] (judgements_from 1 judged) (λ made one. quiet-bind (judgement_again program left one.0 one.1) _ (again-quiet program left one.1 one.0) (λ after. tt))
 
+by_round-quiet : (program : Program) (made : FoundReport) (is_cut : Bool) (notes : List Note) (round : Option PointRound) → IsQuiet (by_round program made is_cut notes round)
+unfolding by_round with_round
+by_round-quiet program made is_cut notes None = tt
+by_round-quiet program made is_cut notes (Some round) = quiet-bind (judgements_again program round made.report.judged) _ (all_again-quiet program round made.report.judged) (λ judged. tt)
+
 points-quiet : (program : Program) (made : FoundReport) (found : FoundTable) → IsQuiet (points_if_open program made found)
 unfolding points_if_open with_points
 points-quiet program made found = by (list_all is_proved made.report.judged)
@@ -54,7 +60,7 @@ points-quiet program made found = by (list_all is_proved made.report.judged)
     by true = tt
     by false =
         quiet-bind (apart (rounds_on program made found)) _ (quiet-apart_from [] (rounds_on program made found))
-        (λ left. quiet-bind (judgements_again program left.0.round made.report.judged) _ (all_again-quiet program left.0.round made.report.judged) (λ judged. tt))
+        (λ left. by_round-quiet program made left.0.is_cut left.1 left.0.round)
 
 pub proof-quiet : (program : Program) (places : List TextPlace) (plan : List Planned) (found : FoundTable) → IsQuiet (proof_by_plan program places plan found)
 unfolding proof_by_plan

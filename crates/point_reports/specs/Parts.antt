@@ -4,12 +4,14 @@ use Rattle.syntax_tree.specs.declared.program.Program.{Program}
 use Rattle.syntax_tree.specs.WellFormed.{IsWellFormed}
 use Rattle.transition_formula.specs.Transition.{Transition}
 use Rattle.flow_graph.specs.FlowGraph.{graph_of}
+use Rattle.point_induction.specs.Induction.{AreTrue}
 use Rattle.point_induction.specs.Points.{heads_of}
 use Rattle.report.specs.declared.blocks.Judged.{Judged}
 use Rattle.report.specs.Claims.{ClaimsAreMet, IsRefuted, PointsMeetRows}
 use Rattle.point_rounds.specs.declared.round.PointRound.{PointRound}
 use Rattle.point_rounds.specs.declared.round.PointState.{PointState}
-use Rattle.point_rounds.specs.Closed.{AreStepsFrom}
+use Rattle.point_rounds.specs.Closed.{AreStepsFrom, CoverTable}
+use Rattle.point_rounds.specs.Sayings.{sayings_of_table}
 use Rattle.point_rounds.specs.Source.{AreGraphsOf, all_heads}
 use Rattle.point_rounds.specs.Table.{IsTable}
 use Rattle.point_verdicts.specs.Claims.{StandsAtPoints}
@@ -55,6 +57,22 @@ pub record IsFoundProof (program : Program) (made : FoundReport) : Type 0 where
   pub holds : FoundReportHolds program made
   pub met : ClaimsAreMet program made.report
   pub points : PointsMeetRows made.report
+
+-- ---- a round
+
+-- its table and its steps are of the program
+pub record FitsRound (program : Program) (round : PointRound) : Type 0 where
+  pub table : IsTable program round.table
+  pub steps : AreStepsFrom program round.steps
+
+-- they cover its rows, by known formulas and states
+abbrev pub CoversRound : Program → List (Option Transition) → List PointState → PointRound
+    → Type 0
+CoversRound program known states round = CoverTable program known states round.steps round.table
+
+-- in every execution from `main` its rows are true
+abbrev pub IsTrueRound : Program → PointRound → Type 0
+IsTrueRound program round = AreTrue program (sayings_of_table program round.table)
 
 -- ---- what is known at points
 

@@ -1,10 +1,15 @@
 -- The analysis whose assertions are judged once more from points: where some are not proved, rounds
 -- of questions tell which rows of a table hold at points, and these judge them.
-use Rattle.std.specs.Prelude.{false, List, [], ◌++◌, if◌then◌else◌}
+use Rattle.std.specs.Prelude.{Bool, false, List, [], ◌++◌, Option, None, Some, if◌then◌else◌}
 use Rattle.std.specs.List.{list_all}
 use Rattle.syntax_tree.specs.declared.program.Program.{Program}
+use Rattle.transition_formula.specs.Transition.{Transition}
+use Rattle.posing.specs.declared.note.Note.{Note}
 use Rattle.posing.specs.Posing.{Posing, Done, ◌>>=◌}
 use Rattle.report.specs.Text.{is_proved}
+use Rattle.point_rounds.specs.declared.round.PointRound.{PointRound}
+use Rattle.point_rounds.specs.declared.round.PointState.{PointState}
+use Rattle.point_rounds.specs.declared.table.PointTable.{PointTable}
 use Rattle.point_rounds.specs.Rounds.{last_round}
 use Rattle.point_states.specs.AllStates.{states_of_points}
 use Rattle.point_search.specs.declared.found.FoundTable.{FoundTable}
@@ -26,31 +31,57 @@ without_points made = record {
   points = record { is_cut = false; rows = [] };
 }
 
+-- the rounds on a table, if there is one
+unfoldable pub rounds_of : Program → List (Option Transition) → List PointState
+    → Option PointTable → Posing (Option PointRound)
+rounds_of program known states None = Done None
+rounds_of program known states (Some table) =
+    last_round program known states table >>= λ round. Done (Some round)
+
 -- the states of points, and then the rounds on a table that is found
 unfoldable pub rounds_on : Program → FoundReport → FoundTable → Posing RoundsTold
 rounds_on program made found =
     states_of_points program made.entries made.flows >>= λ states.
-    last_round program made.known states found.table >>= λ round.
+    rounds_of program made.known states found.table >>= λ round.
     Done record { round = round; is_cut = found.is_cut }
 
--- The report whose assertions are judged once more, with the rows that the last round leaves; the
--- notes of states and rounds stand behind those of the entries. Whether the search was cut is told
--- as it is found.
-unfoldable pub with_points : Program → FoundReport → FoundTable → Posing PointReport
-with_points program made found =
-    apart (rounds_on program made found) >>= λ left.
-    judgements_again program left.0.round made.report.judged >>= λ judged.
+-- a report with further notes behind its own, and without rows at points
+abbrev pub without_round : FoundReport → Bool → List Note → PointReport
+without_round made is_cut notes = record {
+  report = record {
+    procs = made.report.procs;
+    notes = made.report.notes ++ notes;
+    judged = made.report.judged;
+  };
+  points = record { is_cut = is_cut; rows = [] };
+}
+
+-- a report whose assertions are judged once more, with the rows that a round leaves
+unfoldable pub with_round : Program → FoundReport → PointRound → Bool → List Note
+    → Posing PointReport
+with_round program made round is_cut notes =
+    judgements_again program round made.report.judged >>= λ judged.
     Done record {
       report = record {
         procs = made.report.procs;
-        notes = made.report.notes ++ left.1;
+        notes = made.report.notes ++ notes;
         judged = judged;
       };
-      points = record {
-        is_cut = left.0.is_cut;
-        rows = rows_of_table program left.0.round.table;
-      };
+      points = record { is_cut = is_cut; rows = rows_of_table program round.table };
     }
+
+-- as it is where there is no round, since the search for a table was given up
+unfoldable pub by_round : Program → FoundReport → Bool → List Note → Option PointRound
+    → Posing PointReport
+by_round program made is_cut notes None = Done (without_round made is_cut notes)
+by_round program made is_cut notes (Some round) = with_round program made round is_cut notes
+
+-- The report by what the last round leaves; the notes of states and rounds stand behind those of the
+-- entries. Whether the search was cut is told as it is found.
+unfoldable pub with_points : Program → FoundReport → FoundTable → Posing PointReport
+with_points program made found =
+    apart (rounds_on program made found) >>= λ left.
+    by_round program made left.0.is_cut left.1 left.0.round
 
 -- the same where some assertion is not proved, else the report as it is
 unfoldable pub points_if_open : Program → FoundReport → FoundTable → Posing PointReport

@@ -8,8 +8,8 @@ ghost use Rattle.analysis.specs.Claims.{AreTheirPlaces};
 ghost use Rattle.analysis.specs.Plan.{IsPlan};
 ghost use Rattle.point_search.specs.declared.found.FoundTable.{FoundTable as Found};
 ghost use Rattle.point_reports.specs.Claims.{AreAllMet};
-ghost use Rattle.point_reports.specs.Parts.{IsFoundProof, KeepsReport};
-ghost use Rattle.point_reports.specs.Proof.{points_if_open, proof_by_plan, with_points, without_points};
+ghost use Rattle.point_reports.specs.Parts.{IsFoundProof, IsJudgedRound, IsKnownAtPoints, KeepsReport};
+ghost use Rattle.point_reports.specs.Proof.{points_if_open, proof_by_plan, with_points, with_round, without_points, without_round};
 
 use crate::again::{JudgedRound, is_proved, judgements_again};
 use crate::blocks::rows_of_table;
@@ -18,13 +18,14 @@ use analysis::{FoundReport, Planned, TextPlace, findings_by_plan, found_report, 
 use farkas_check::Oracle;
 use items::Items;
 use point_rounds::all_heads;
-use posing::{Log, WorkError};
+use posing::{Log, Note, WorkError};
 use report::{PointsTold, Report};
-use std::alloc::Global;
+use std::alloc::{AllocError, Global};
 use syntax_tree::Program;
 
 /// A report, and what is told of points: the rows that hold at points of its program and where its
-/// procedures return, none where every assertion is proved without them.
+/// procedures return; none where every assertion is proved without them, or where the search for
+/// them was given up.
 #[derive(Drop)]
 pub struct PointReport {
     pub report: Report,
@@ -129,12 +130,71 @@ fn with_points<O: Oracle>(
     };
     let (told, own) = rounds_apart(alloc, ground, oracle, log)?;
     let RoundsTold { round, is_cut } = told;
-    let left = JudgedRound {
-        program,
-        standing: &standing,
-        heads: heads.as_slice(),
-        round: &round,
-    };
+    match round {
+        Some(round) => {
+            let left = JudgedRound {
+                program,
+                standing: &standing,
+                heads: heads.as_slice(),
+                round: &round,
+            };
+            with_round(alloc, left, made, is_cut, own, oracle, log)
+        }
+        None => {
+            let whole = without_round(alloc, made, is_cut, own)?;
+            Ok(whole)
+        }
+    }
+}
+
+/// The report with further notes behind its own, and without rows at points.
+fn without_round(
+    alloc: Global,
+    made: FoundReport,
+    is_cut: bool,
+    more: Items<Note>,
+) -> Result<PointReport, AllocError>
+    ensures { IfOk result (λ whole. whole ≡ without_round made is_cut more) }
+{
+    let Report {
+        procs,
+        mut notes,
+        judged,
+    } = made.report;
+    notes.append(more)?;
+    Ok(PointReport {
+        report: Report {
+            procs,
+            notes,
+            judged,
+        },
+        points: PointsTold {
+            is_cut,
+            rows: Items::new(alloc),
+        },
+    })
+}
+
+/// The report whose assertions are judged once more by what a round leaves, with the rows of its
+/// table.
+fn with_round<O: Oracle>(
+    alloc: Global,
+    left: JudgedRound<'_>,
+    made: FoundReport,
+    is_cut: bool,
+    own: Items<Note>,
+    oracle: &mut O,
+    log: &mut Log,
+) -> Result<PointReport, WorkError>
+    requires left { IsJudgedRound left }
+    requires made { IsFoundProof left.program.now made }
+    requires known { IsKnownAtPoints left.program.now left.round.now }
+    ensures follows { Asks O.asking oracle log result
+        (with_round left.entry.program.now made left.entry.round.now is_cut own) }
+    ensures keeps { IfOk result (KeepsReport made) }
+    ensures met { IfOk result (AreAllMet left.entry.program.now) }
+    ensures points { IfOk result (λ made. PointsMeetRows made.report) }
+{
     let Report {
         procs,
         mut notes,
@@ -142,7 +202,7 @@ fn with_points<O: Oracle>(
     } = made.report;
     let judged = judgements_again(alloc, left, judged.as_slice(), oracle, log)?;
     notes.append(own)?;
-    let rows = rows_of_table(alloc, program, heads.as_slice(), &round.table)?;
+    let rows = rows_of_table(alloc, left.program, left.heads, &left.round.table)?;
     Ok(PointReport {
         report: Report {
             procs,

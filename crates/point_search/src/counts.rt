@@ -6,8 +6,11 @@ const MOST_BOUNDS: usize = 100_000;
 /// How many pairs of a row and a case of a step are judged.
 const MOST_JUDGEMENTS: usize = 200_000;
 
-/// For how many multipliers in answers steps are made anew.
+/// For how many multipliers in answers steps are made.
 const MOST_MULTIPLIERS: usize = 6_000_000;
+
+/// The search is given up where one making of steps has so many.
+const MOST_AT_ONCE: usize = 2_000_000;
 
 /// How often rows are dropped by steps that are made by what is left at exits.
 pub(crate) const MOST_MAKINGS: usize = 64;
@@ -39,6 +42,12 @@ impl SearchLeft {
         }
         self.bounds = self.bounds.saturating_sub(count);
         true
+    }
+
+    /// Takes the multipliers of one making, and tells whether they are not too many.
+    pub(crate) fn takes_multipliers(&mut self, count: usize) -> bool {
+        self.multipliers = self.multipliers.saturating_sub(count);
+        count < MOST_AT_ONCE
     }
 }
 

@@ -1,14 +1,12 @@
-ghost use Rattle.std.specs.Prelude.{IfOk};
+ghost use Rattle.std.specs.Prelude.{IfOk, IfSome};
 ghost use Rattle.point_rounds.specs.Source.{IsRoundSource};
 ghost use Rattle.point_rounds.specs.Table.{IsTable};
 
 use crate::arrivals::all_arrivals;
 use crate::counts::{MOST_MAKINGS, SearchLeft};
 use crate::dropping::{CaseSeen, drop_rows, unseen};
-use crate::places::{
-    PlaceNumbers, RowsLeft, clear, empty_places, entry_numbers, put_left, rows_left,
-};
-use crate::steps::{OwnSteps, make_all_anew, make_anew, mark_stale, no_steps};
+use crate::places::{PlaceNumbers, RowsLeft, empty_places, entry_numbers, put_left, rows_left};
+use crate::steps::{OwnSteps, make_all, make_next, mark_stale, no_steps};
 use crate::strongest::strongest;
 use crate::tables::{PlacesLeft, proc_count, table_of};
 use crate::texts::program_texts;
@@ -18,19 +16,21 @@ use point_rounds::{PointTable, RoundSource, RowPlace};
 use std::alloc::{AllocError, Global};
 use std::mem;
 
-/// A table of rows that was found, and whether the search was cut, so that others may be missing.
+/// A table of rows that was found, none where the search was given up, and whether it was cut, so
+/// that rows may be missing.
 #[derive(Drop)]
 pub struct FoundTable {
-    pub table: PointTable,
+    pub table: Option<PointTable>,
     pub is_cut: bool,
 }
 
 /// A table of rows that may hold at the points and exits of a program's procedures: of the rows of
 /// the text and of bounds those that steps keep. What it finds is told by no contract but that it
-/// is a table. The one error is want of memory.
+/// is a table, or none where the search was given up. The one error is want of memory.
 pub fn found_table(alloc: Global, source: RoundSource) -> Result<FoundTable, AllocError>
     requires { IsRoundSource source }
-    ensures { IfOk result (λ found. IsTable source.entry.program.now found.table) }
+    ensures { IfOk result
+        (λ found. IfSome found.table (IsTable source.entry.program.now)) }
 {
     let entries = entry_numbers(alloc, source.heads)?;
     let numbers = PlaceNumbers {
@@ -38,36 +38,46 @@ pub fn found_table(alloc: Global, source: RoundSource) -> Result<FoundTable, All
         heads: source.heads,
     };
     let mut places = empty_places(alloc, source.heads)?;
-    let is_cut = find_rows(alloc, source, numbers, &mut places)?;
-    let left = PlacesLeft {
+    let mut left = SearchLeft::new();
+    if !find_rows(alloc, source, numbers, &mut places, &mut left)? {
+        return Ok(FoundTable {
+            table: None,
+            is_cut: true,
+        });
+    }
+    let found = PlacesLeft {
         numbers,
         places: &places,
     };
-    let table = table_of(alloc, source, left)?;
-    Ok(FoundTable { table, is_cut })
+    let table = table_of(alloc, source, found)?;
+    Ok(FoundTable {
+        table: Some(table),
+        is_cut: left.is_cut,
+    })
 }
 
-/// Finds the rows at places, and tells whether the search was cut.
+/// Finds the rows at places, and tells whether the search came to an end.
 fn find_rows(
     alloc: Global,
     source: RoundSource,
     numbers: PlaceNumbers,
     places: &mut [RowsLeft],
+    left: &mut SearchLeft,
 ) -> Result<bool, AllocError>
     requires { IsRoundSource source }
 {
-    let mut left = SearchLeft::new();
     let mut steps = no_steps(alloc, proc_count(source))?;
-    take_candidates(alloc, source, numbers, &mut steps, places, &mut left)?;
-    if !keep_rows(alloc, source, numbers, &mut steps, places, &mut left)? {
-        clear(alloc, places);
+    if take_candidates(alloc, source, numbers, &mut steps, places, left)?
+        && keep_rows(alloc, source, numbers, &mut steps, places, left)?
+    {
+        keep_strongest(alloc, places)?;
         return Ok(true);
     }
-    keep_strongest(alloc, places)?;
-    Ok(left.is_cut)
+    Ok(false)
 }
 
-/// Makes steps by all candidates at exits, and takes the candidates at points and bounds at exits.
+/// Makes steps by all candidates at exits, and takes the candidates at points and bounds at exits. It
+/// tells whether it came to an end.
 fn take_candidates(
     alloc: Global,
     source: RoundSource,
@@ -75,12 +85,15 @@ fn take_candidates(
     steps: &mut [OwnSteps],
     places: &mut [RowsLeft],
     left: &mut SearchLeft,
-) -> Result<(), AllocError>
+) -> Result<bool, AllocError>
     requires { IsRoundSource source }
 {
     let texts = program_texts(alloc, source)?;
     put_exit_rows(alloc, source, &texts, numbers, places)?;
-    make_anew(alloc, source, PlacesLeft { numbers, places }, steps)?;
+    let multipliers = make_all(alloc, source, PlacesLeft { numbers, places }, steps)?;
+    if !left.takes_multipliers(multipliers) {
+        return Ok(false);
+    }
     let arrivals = all_arrivals(alloc, source, numbers, steps)?;
     let tried = TriedSource {
         texts: &texts,
@@ -88,12 +101,13 @@ fn take_candidates(
         arrivals: &arrivals,
     };
     put_point_rows(alloc, source, tried, places, left)?;
-    put_exit_bounds(alloc, source, tried, places, left)
+    put_exit_bounds(alloc, source, tried, places, left)?;
+    Ok(true)
 }
 
 /// Drops rows until all that are left are kept by steps that are made by them: where rows fall at an
-/// exit, those of its callers are made anew, and where that was done too often, no row is left at an
-/// exit. It tells whether it came to an end.
+/// exit, those of its callers are to be made anew, and where that was done too often, no row is left
+/// at an exit. It tells whether it came to an end.
 fn keep_rows(
     alloc: Global,
     source: RoundSource,
@@ -117,12 +131,17 @@ fn keep_rows(
         if left.multipliers == 0 {
             break;
         }
-        let multipliers = make_anew(alloc, source, PlacesLeft { numbers, places }, steps)?;
-        left.multipliers = left.multipliers.saturating_sub(multipliers);
+        let multipliers = make_next(alloc, source, PlacesLeft { numbers, places }, steps)?;
+        if !left.takes_multipliers(multipliers) {
+            return Ok(false);
+        }
     }
     left.is_cut = true;
     drop_exits(alloc, source, numbers, places);
-    make_all_anew(alloc, source, PlacesLeft { numbers, places }, steps)?;
+    let multipliers = make_all(alloc, source, PlacesLeft { numbers, places }, steps)?;
+    if !left.takes_multipliers(multipliers) {
+        return Ok(false);
+    }
     drop_by_steps(alloc, source, numbers, steps, &mut seen, places, left)
 }
 
@@ -147,7 +166,7 @@ fn drop_by_steps(
 ) -> Result<bool, AllocError> {
     let arrivals = all_arrivals(alloc, source, numbers, steps)?;
     for (proc, own) in arrivals.iter().enumerate() {
-        if proc < seen.len() && proc < steps.len() && steps[proc].is_stale {
+        if proc < seen.len() && proc < steps.len() && steps[proc].is_new {
             seen[proc] = unseen(alloc, own.len())?;
         }
     }

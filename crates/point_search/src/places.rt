@@ -178,13 +178,6 @@ pub(crate) fn put_left(places: &mut [RowsLeft], number: usize, left: RowsLeft) {
     }
 }
 
-/// Drops all rows.
-pub(crate) fn clear(alloc: Global, places: &mut [RowsLeft]) {
-    for place in places.iter_mut() {
-        *place = RowsLeft::none(alloc, 0);
-    }
-}
-
 /// The first so many of the rows.
 pub(crate) fn first_rows(
     alloc: Global,

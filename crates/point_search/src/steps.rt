@@ -12,12 +12,15 @@ use point_rounds::{PointState, PointTable, RoundSource, StepFrom, steps_by_table
 use posing::Log;
 use std::alloc::{AllocError, Global};
 
-/// The steps from the points of a procedure, and whether they are to be made anew.
+/// The steps from the points of a procedure.
 #[derive(Drop)]
 pub(crate) struct OwnSteps {
-    pub(crate) proc: u32,
+    proc: u32,
     pub(crate) made: Items<StepFrom>,
-    pub(crate) is_stale: bool,
+    /// Whether they are to be made anew.
+    is_stale: bool,
+    /// Whether they were made by the last making.
+    pub(crate) is_new: bool,
 }
 
 /// No steps of so many procedures, all to be made.
@@ -28,14 +31,51 @@ pub(crate) fn no_steps(alloc: Global, procs: u32) -> Result<Vec<OwnSteps>, Alloc
             proc,
             made: Items::new(alloc),
             is_stale: true,
+            is_new: false,
         })?;
     }
     Ok(all)
 }
 
-/// Makes those steps anew that are to be, by what is left at exits, and tells how many multipliers
-/// the answers have that this took.
-pub(crate) fn make_anew(
+/// Makes all steps, by what is left at exits, and tells how many multipliers the answers have that
+/// this took.
+pub(crate) fn make_all(
+    alloc: Global,
+    source: RoundSource,
+    left: PlacesLeft,
+    steps: &mut [OwnSteps],
+) -> Result<usize, AllocError>
+    requires { IsRoundSource source }
+{
+    for own in steps.iter_mut() {
+        own.is_new = true;
+    }
+    make_new(alloc, source, left, steps)
+}
+
+/// Makes stale steps anew: those of procedures that call no other one with stale steps, or all where
+/// each calls one.
+pub(crate) fn make_next(
+    alloc: Global,
+    source: RoundSource,
+    left: PlacesLeft,
+    steps: &mut [OwnSteps],
+) -> Result<usize, AllocError>
+    requires { IsRoundSource source }
+{
+    let waits = waiting(alloc, source, steps)?;
+    let all_wait = waits
+        .iter()
+        .zip(steps.iter())
+        .all(|(waits, own)| *waits || !own.is_stale);
+    for (own, waits) in steps.iter_mut().zip(waits.iter()) {
+        own.is_new = own.is_stale && (all_wait || !*waits);
+    }
+    make_new(alloc, source, left, steps)
+}
+
+/// Makes the steps that are to be new.
+fn make_new(
     alloc: Global,
     source: RoundSource,
     left: PlacesLeft,
@@ -46,9 +86,10 @@ pub(crate) fn make_anew(
     let table = table_of(alloc, source, left)?;
     let mut multipliers: usize = 0;
     for own in steps.iter_mut() {
-        if own.is_stale {
+        if own.is_new {
             let mut log = Log::new(alloc);
             own.made = steps_from(alloc, source, own.proc, &table, &mut log)?;
+            own.is_stale = false;
             let own_count = multiplier_count(log.answers.as_slice());
             multipliers = multipliers.saturating_add(own_count);
         }
@@ -56,19 +97,36 @@ pub(crate) fn make_anew(
     Ok(multipliers)
 }
 
-/// Makes all steps anew.
-pub(crate) fn make_all_anew(
+/// Which procedures call another one with stale steps.
+fn waiting(
     alloc: Global,
     source: RoundSource,
-    left: PlacesLeft,
-    steps: &mut [OwnSteps],
-) -> Result<usize, AllocError>
-    requires { IsRoundSource source }
-{
-    for own in steps.iter_mut() {
-        own.is_stale = true;
+    steps: &[OwnSteps],
+) -> Result<Vec<bool>, AllocError> {
+    let mut all = Vec::new(alloc);
+    for own in steps {
+        let waits = match source.graphs.get(own.proc as usize) {
+            Some(graph) => calls_stale(graph, own.proc, steps),
+            None => false,
+        };
+        all.push(waits)?;
     }
-    make_anew(alloc, source, left, steps)
+    Ok(all)
+}
+
+/// Whether a graph calls a procedure, other than its own, with stale steps.
+fn calls_stale(graph: &Graph, own: u32, steps: &[OwnSteps]) -> bool {
+    graph.edges.as_slice().iter().any(|edge| match &edge.act {
+        Act::Call { proc, .. } => *proc != own && is_stale(steps, *proc),
+        _ => false,
+    })
+}
+
+fn is_stale(steps: &[OwnSteps], proc: u32) -> bool {
+    match steps.get(proc as usize) {
+        Some(own) => own.is_stale,
+        None => false,
+    }
 }
 
 /// The steps from the points of a procedure. The log takes the answers.
@@ -121,7 +179,7 @@ fn part_of(states: &[PointState], from: usize, to: usize) -> &[PointState]
 }
 
 /// Marks the steps of procedures that call one at whose exit there are other counts of rows now, and
-/// no others; it tells whether there are any.
+/// tells whether any are stale.
 pub(crate) fn mark_stale(
     source: RoundSource,
     before: &[usize],
@@ -130,7 +188,7 @@ pub(crate) fn mark_stale(
 ) -> bool {
     let mut any = false;
     for own in steps.iter_mut() {
-        own.is_stale = match source.graphs.get(own.proc as usize) {
+        own.is_stale |= match source.graphs.get(own.proc as usize) {
             Some(graph) => calls_changed(graph, before, now),
             None => false,
         };

@@ -1,47 +1,42 @@
-use Rattle.std.proofs.Common.{false, [], refl}
+use Rattle.std.proofs.Common.{refl}
 use Rattle.posing.specs.Posing.{◌>>=◌}
 use Rattle.posing.proofs.Steps.{error_first, value_first}
 use Rattle.analysis.specs.Analysis.{found_report}
 use Rattle.analysis.proofs.Quiet.{quiet-kept}
-use Rattle.point_search.specs.declared.found.FoundTable.{FoundTable}
 use Rattle.point_reports.specs.Proof.{points_if_open, proof_by_plan}
-use Rattle.point_reports.proofs.PointTruth.{report-covers}
+use Rattle.point_reports.proofs.PointTruth.{no_table, report-covers}
 use Rattle.point_reports.proofs.QuietProofs.{proof-quiet}
 use Rattle.point_reports.proofs.whole.prove.Goals as goal
-
--- any table
-none : FoundTable
-none = record { table = record { points = []; exits = [] }; is_cut = false }
 
 pub returns-in_err-found-clause-follows : goal.returns-in_err-found-clause-follows
 unfolding proof_by_plan
 returns-in_err-found-clause-follows g c =
     let program = c.args.program.now in
-    (none, error_first (λ found. found_report program c.args.places.now found >>= λ made. points_if_open program made none) c.in_err-found.ensures.follows refl c.from_residual.ensures.1)
+    (no_table, error_first (λ found. found_report program c.args.places.now found >>= λ made. points_if_open program made no_table) c.in_err-found.ensures.follows refl c.from_residual.ensures.1)
 
 pub returns-in_err-found-clause-kept : goal.returns-in_err-found-clause-kept
 unfolding proof_by_plan
 returns-in_err-found-clause-kept g c =
     let program = c.args.program.now in
-    quiet-kept _ _ _ _ _ _ _ (proof-quiet program c.args.places.now c.args.plan.now none)
-    (error_first (λ found. found_report program c.args.places.now found >>= λ made. points_if_open program made none) c.in_err-found.ensures.follows refl c.from_residual.ensures.1)
+    quiet-kept _ _ _ _ _ _ _ (proof-quiet program c.args.places.now c.args.plan.now no_table)
+    (error_first (λ found. found_report program c.args.places.now found >>= λ made. points_if_open program made no_table) c.in_err-found.ensures.follows refl c.from_residual.ensures.1)
 
 pub returns-in_err-made-clause-follows : goal.returns-in_err-made-clause-follows
 unfolding proof_by_plan
 returns-in_err-made-clause-follows g c =
     let program = c.args.program.now in (
-      none,
-      value_first (λ found. found_report program c.args.places.now found >>= λ made. points_if_open program made none) c.in_ok-found.ensures.follows refl
-          (error_first (λ made. points_if_open program made none) c.in_err-made.ensures.follows refl c.from_residual-in_err-made.ensures.1),
+      no_table,
+      value_first (λ found. found_report program c.args.places.now found >>= λ made. points_if_open program made no_table) c.in_ok-found.ensures.follows refl
+          (error_first (λ made. points_if_open program made no_table) c.in_err-made.ensures.follows refl c.from_residual-in_err-made.ensures.1),
     )
 
 pub returns-in_err-made-clause-kept : goal.returns-in_err-made-clause-kept
 unfolding proof_by_plan
 returns-in_err-made-clause-kept g c =
     let program = c.args.program.now in
-    quiet-kept _ _ _ _ _ _ _ (proof-quiet program c.args.places.now c.args.plan.now none)
-    (value_first (λ found. found_report program c.args.places.now found >>= λ made. points_if_open program made none) c.in_ok-found.ensures.follows refl
-    (error_first (λ made. points_if_open program made none) c.in_err-made.ensures.follows refl c.from_residual-in_err-made.ensures.1))
+    quiet-kept _ _ _ _ _ _ _ (proof-quiet program c.args.places.now c.args.plan.now no_table)
+    (value_first (λ found. found_report program c.args.places.now found >>= λ made. points_if_open program made no_table) c.in_ok-found.ensures.follows refl
+    (error_first (λ made. points_if_open program made no_table) c.in_err-made.ensures.follows refl c.from_residual-in_err-made.ensures.1))
 
 pub points_if_open-requires-clause-made : goal.points_if_open-requires-clause-made
 points_if_open-requires-clause-made g c = record {

@@ -1,47 +1,32 @@
-use Rattle.std.proofs.Common.{false, List, [], ◌++◌, map, refl, sym, ap, subst, ◌∙◌}
+use Rattle.std.proofs.Common.{List, refl, sym, ap, subst, ◌∙◌}
+use Rattle.std.specs.Prelude.{All, IfSome}
 use Rattle.syntax_tree.specs.declared.program.Program.{Program}
 use Rattle.posing.specs.declared.note.Note.{Note}
-use Rattle.posing.specs.Posing.{Posing, Done, ◌>>=◌}
+use Rattle.posing.specs.Posing.{Posing}
 use Rattle.posing.proofs.Following.{stops}
-use Rattle.posing.proofs.Steps.{at_end, error_first, value_first}
-use Rattle.report.specs.declared.blocks.Judged.{Judged}
+use Rattle.posing.proofs.Steps.{at_end, error_first, in_other_words, value_first}
 use Rattle.point_induction.specs.Heads.{AreInside}
-use Rattle.std.specs.Prelude.{All}
-use Rattle.point_search.specs.declared.found.FoundTable.{FoundTable}
 use Rattle.point_rounds.specs.Source.{all_heads}
 use Rattle.analysis.specs.declared.whole.FoundReport.{FoundReport}
-use Rattle.analysis.specs.Claims.{AreJudged, AreRefuted}
+use Rattle.report.specs.Claims.{PointsMeetRows}
 use Rattle.point_reports.specs.declared.rounds.RoundsTold.{RoundsTold}
 use Rattle.point_reports.specs.declared.whole.PointReport.{PointReport}
-use Rattle.point_reports.specs.Again.{judgements_again}
-use Rattle.point_reports.specs.Blocks.{rows_of_table}
-use Rattle.point_reports.specs.Claims.{PointRowsAreMet}
-use Rattle.point_reports.specs.Proof.{with_points}
-use Rattle.point_reports.proofs.JudgedAgain.{again-judged, again-refuted, ats-same}
-use Rattle.point_reports.proofs.OwnGraphs.{graphs-are, heads-are, inside-all}
-use Rattle.point_reports.proofs.ToldRows.{rows-met}
+use Rattle.point_reports.specs.Claims.{AreAllMet}
+use Rattle.point_reports.specs.Parts.{FitsRound, IsKnownAtPoints, KeepsReport}
+use Rattle.point_reports.specs.Proof.{by_round, with_points}
+use Rattle.point_reports.proofs.OwnGraphs.{graphs-are, inside-all}
+use Rattle.point_reports.proofs.PointTruth.{no_table, none-met}
 use Rattle.point_reports.proofs.whole.with_points.Goals as goal
-
--- any table
-none : FoundTable
-none = record { table = record { points = []; exits = [] }; is_cut = false }
-
--- the report with judgements once more, and with what is told
-abbrev told_with : Program → FoundReport → RoundsTold × List Note → List Judged → PointReport
-told_with program made left judged = record {
-  report = record { procs = made.report.procs; notes = made.report.notes ++ left.1; judged = judged };
-  points = record { is_cut = left.0.is_cut; rows = rows_of_table program left.0.round.table };
-}
 
 -- what is left after the rounds
 abbrev after_rounds : Program → FoundReport → RoundsTold × List Note → Posing PointReport
-after_rounds program made left = judgements_again program left.0.round made.report.judged >>= λ judged. Done (told_with program made left judged)
+after_rounds program made left = by_round program made left.0.is_cut left.1 left.0.round
 
 pub returns-in_err-standing-clause-follows : goal.returns-in_err-standing-clause-follows
-returns-in_err-standing-clause-follows g c = (none, stops _ _ _ _ _ _ refl c.from_residual.ensures.1)
+returns-in_err-standing-clause-follows g c = (no_table, stops _ _ _ _ _ _ refl c.from_residual.ensures.1)
 
 pub returns-in_err-heads-clause-follows : goal.returns-in_err-heads-clause-follows
-returns-in_err-heads-clause-follows g c = (none, stops _ _ _ _ _ _ refl c.from_residual-in_err-heads.ensures.1)
+returns-in_err-heads-clause-follows g c = (no_table, stops _ _ _ _ _ _ refl c.from_residual-in_err-heads.ensures.1)
 
 pub all_heads-requires : goal.all_heads-requires
 all_heads-requires g c = subst (All AreInside) (sym c.as_slice.ensures) (inside-all c.args.program.now c.in_ok-standing.standing c.in_ok-standing.ensures)
@@ -59,87 +44,50 @@ unfolding with_points
 returns-in_err-told-clause-follows g c =
     (c.in_err-told.ensures.follows.0, error_first (after_rounds c.args.program.now c.args.made) c.in_err-told.ensures.follows.1 refl c.from_residual-in_err-told.ensures.1)
 
-pub judgements_again-requires : goal.judgements_again-requires
-judgements_again-requires g c = record {
-  formed = c.requires.formed;
-  standing = c.in_ok-standing.ensures;
-  graphs = graphs-are c.args.program.now c.in_ok-standing.standing c.in_ok-standing.ensures;
-  heads = c.as_slice-3.ensures ∙ c.in_ok-heads.ensures ∙ ap all_heads c.as_slice.ensures;
-  table = c.in_ok-told.ensures.fits;
-  steps = c.in_ok-told.ensures.steps;
-}
+pub with_round-requires-clause-left : goal.with_round-requires-clause-left
+with_round-requires-clause-left g c =
+    let fits = subst (λ r. IfSome r (FitsRound c.args.program.now)) c.in-Some.is c.in_ok-told.ensures.fits in record {
+      formed = c.requires.formed;
+      standing = c.in_ok-standing.ensures;
+      graphs = graphs-are c.args.program.now c.in_ok-standing.standing c.in_ok-standing.ensures;
+      heads = c.as_slice-in-Some.ensures ∙ c.in_ok-heads.ensures ∙ ap all_heads c.as_slice.ensures;
+      table = fits.table;
+      steps = fits.steps;
+    }
 
-pub returns-in_err-judged-clause-follows : goal.returns-in_err-judged-clause-follows
-unfolding with_points
-returns-in_err-judged-clause-follows g c =
-    let program = c.args.program.now in
-    let left : RoundsTold × List Note = (c.in_ok-told.told, c.in_ok-told.own) in (
+pub returns-in-Some-clause-follows : goal.returns-in-Some-clause-follows
+unfolding with_points by_round
+returns-in-Some-clause-follows g c =
+    let told = c.in_ok-told.told in (
       c.in_ok-told.ensures.follows.0,
-      value_first (after_rounds program c.args.made) c.in_ok-told.ensures.follows.1 refl
-          (error_first (λ judged. Done (told_with program c.args.made left judged)) c.in_err-judged.ensures.follows (ap (judgements_again program c.in_ok-told.told.round) c.as_slice-4.ensures) c.from_residual-in_err-judged.ensures.1),
+      value_first (after_rounds c.args.program.now c.args.made) c.in_ok-told.ensures.follows.1 refl
+          (in_other_words (ap (by_round c.args.program.now c.args.made told.is_cut c.in_ok-told.own) (sym c.in-Some.is)) c.with_round.ensures.follows),
     )
 
-pub returns-in_err-append-clause-follows : goal.returns-in_err-append-clause-follows
-unfolding with_points
-returns-in_err-append-clause-follows g c =
-    let program = c.args.program.now in
-    let left : RoundsTold × List Note = (c.in_ok-told.told, c.in_ok-told.own) in (
-      c.in_ok-told.ensures.follows.0,
-      value_first (after_rounds program c.args.made) c.in_ok-told.ensures.follows.1 refl
-          (value_first (λ judged. Done (told_with program c.args.made left judged)) c.in_ok-judged.ensures.follows (ap (judgements_again program c.in_ok-told.told.round) c.as_slice-4.ensures)
-          (stops _ _ _ _ _ _ refl c.from_residual-in_err-append.ensures.1)),
-    )
+pub with_round-requires-clause-known : goal.with_round-requires-clause-known
+with_round-requires-clause-known g c = subst (λ r. IfSome r (IsKnownAtPoints c.args.program.now)) c.in-Some.is (c.in_ok-told.ensures.known c.requires.made.holds)
 
-pub rows_of_table-requires-clause-heads : goal.rows_of_table-requires-clause-heads
-rows_of_table-requires-clause-heads g c =
-    heads-are c.args.program.now c.in_ok-standing.standing.graphs c.as_slice-5.result.now (graphs-are c.args.program.now c.in_ok-standing.standing c.in_ok-standing.ensures)
-    (c.as_slice-5.ensures ∙ c.in_ok-heads.ensures ∙ ap all_heads c.as_slice.ensures)
-
-pub returns-in_err-rows-clause-follows : goal.returns-in_err-rows-clause-follows
+pub returns-in_err-whole-in-None-clause-follows : goal.returns-in_err-whole-in-None-clause-follows
 unfolding with_points
-returns-in_err-rows-clause-follows g c =
-    let program = c.args.program.now in
-    let left : RoundsTold × List Note = (c.in_ok-told.told, c.in_ok-told.own) in (
-      c.in_ok-told.ensures.follows.0,
-      value_first (after_rounds program c.args.made) c.in_ok-told.ensures.follows.1 refl
-          (value_first (λ judged. Done (told_with program c.args.made left judged)) c.in_ok-judged.ensures.follows (ap (judgements_again program c.in_ok-told.told.round) c.as_slice-4.ensures)
-          (stops _ _ _ _ _ _ refl c.from_residual-in_err-rows.ensures.1)),
-    )
+returns-in_err-whole-in-None-clause-follows g c =
+    (c.in_ok-told.ensures.follows.0, value_first (after_rounds c.args.program.now c.args.made) c.in_ok-told.ensures.follows.1 refl (stops _ _ _ _ _ _ refl c.from_residual-in_err-whole-in-None.ensures.1))
 
 pub returns-clause-follows : goal.returns-clause-follows
-unfolding with_points
+unfolding with_points by_round
 returns-clause-follows g c =
-    let program = c.args.program.now in
-    let made = c.args.made in
-    let left : RoundsTold × List Note = (c.in_ok-told.told, c.in_ok-told.own) in (
+    let told = c.in_ok-told.told in (
       c.in_ok-told.ensures.follows.0,
-      value_first (after_rounds program made) c.in_ok-told.ensures.follows.1 refl
-          (value_first (λ judged. Done (told_with program made left judged)) c.in_ok-judged.ensures.follows (ap (judgements_again program c.in_ok-told.told.round) c.as_slice-4.ensures)
-          (at_end (λ i. record {
-            report = record { procs = made.report.procs; notes = c.in_ok-append.ensures.ok i; judged = c.in_ok-judged.judged };
-            points = record { is_cut = c.in_ok-told.told.is_cut; rows = c.in_ok-rows.ensures i };
-          }))),
+      value_first (after_rounds c.args.program.now c.args.made) c.in_ok-told.ensures.follows.1 refl
+          (in_other_words (ap (by_round c.args.program.now c.args.made told.is_cut c.in_ok-told.own) (sym c.in-None.is)) (at_end c.in_ok-whole-in-None.ensures)),
     )
 
 pub returns-clause-keeps : goal.returns-clause-keeps
-returns-clause-keeps g c = record {
-  procs = refl;
-  ats = ats-same c.args.program.now c.in_ok-told.told.round 1 c.as_slice-4.result.now c.in_ok-judged.judged c.in_ok-judged.ensures.again ∙ ap (map (λ (j : Judged). j.at)) c.as_slice-4.ensures;
-}
+returns-clause-keeps g c = subst (KeepsReport c.args.made) (sym c.in_ok-whole-in-None.ensures) record { procs = refl; ats = refl }
 
 pub returns-clause-met : goal.returns-clause-met
 returns-clause-met g c =
-    let program = c.args.program.now in
-    let round = c.in_ok-told.told.round in
-    let known = c.in_ok-told.ensures.known c.requires.made.holds in
-    record {
-      claims = record {
-        summaries = c.requires.made.met.summaries;
-        proved = again-judged program round c.as_slice-4.result.now c.in_ok-judged.judged c.in_ok-judged.ensures.again known (subst (AreJudged program) (sym c.as_slice-4.ensures) c.requires.made.met.proved);
-      };
-      points = subst (PointRowsAreMet program) (sym c.in_ok-rows.ensures) (rows-met program round.table known.2.rows);
-    }
+    let met = c.requires.made.met in
+    subst (AreAllMet c.args.program.now) (sym c.in_ok-whole-in-None.ensures) record { claims = record { summaries = met.summaries; proved = met.proved }; points = none-met c.args.program.now }
 
 pub returns-clause-points : goal.returns-clause-points
-returns-clause-points g c =
-    again-refuted c.args.program.now c.in_ok-told.told.round c.as_slice-4.result.now c.in_ok-judged.judged c.in_ok-judged.ensures.again (subst AreRefuted (sym c.as_slice-4.ensures) c.requires.made.points)
+returns-clause-points g c = subst (λ (whole : PointReport). PointsMeetRows whole.report) (sym c.in_ok-whole-in-None.ensures) c.requires.made.points
