@@ -4,8 +4,9 @@ loop over more and more variables that branches, loops one behind the other, loo
 globals, a ring of procedures each of which calls the next one, procedures of many locals with loops of many branches, and procedures
 with loops of branches, or with nested loops, over shared globals, called in a loop, in which `prove` looks for rows at points; and
 texts by seeds, of up to 150 and of up to 60 lines, the last ones also with one statement in a line, whose procedures branch over so
-many globals that `prove` takes long. For each text: its lines, the cost of `analyse`, of `certify` and of `check` of what that printed, and the number of answers. Where a made
-text has twice the size of one before it, the growth of the costs is told as an exponent: 1 is linear, 2 quadratic.
+many globals that `prove` takes long. For each text: its lines, the cost of `analyse`, of `certify` and of `check` of what that
+printed, and the number of answers. Where a made text has twice the size of one before it, the growth of the costs is told as an
+exponent: 1 is linear, 2 quadratic.
 
 usage: time_programs.py [--instructions] [--beside WORD] [--only NAME] PROGRAM
 
@@ -158,7 +159,7 @@ MADE = [("chain", chain, (1, 2, 4, 8, 16, 32, 64)), ("variables", variables, (2,
         ("ring", ring, (16, 32, 64, 128, 256)), ("locals", locals_, (1, 2, 4)),
         ("shared", shared, (2, 3, 4, 5, 6, 7, 8)), ("nests", nests, (2, 4, 6, 8)),
         ("dense", dense, (7, 10, 25, 29)), ("dense60", lambda seed: dense(seed, 60), (112, 114, 126)),
-        ("laid_out60", lambda seed: dense(seed, 60, laid_out), (235, 253, 302, 349))]
+        ("laid_out60", lambda seed: dense(seed, 60, laid_out), (235, 253, 312, 390))]
 TEXTS = os.path.join(os.path.dirname(os.path.abspath(__file__)), "texts")
 
 
