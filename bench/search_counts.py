@@ -1,33 +1,52 @@
 """The counts by which the search for rows at points ends, and the note that tells of them, laid over an independent model of the rules,
 which has none. Whoever imports this, with the model on the path, has the model search so."""
-import candidates, leaves, reached, report
+import candidates, leaves, reached, report, solve
 from polyhedra import Work, directions
-from solve import Finder
 from summary import exit_columns
 
 MOST_BOUNDS = 100_000  # pairs of a direction and a case of a step
 MOST_JUDGEMENTS = 200_000  # pairs of a row and a case of a step
-MOST_MULTIPLIERS = 6_000_000  # in answers by which steps are made
-MOST_AT_ONCE = 2_000_000  # in those of one making; with so many the search is given up
+ASKED_BY_POINTS = 700  # how much may be asked of a program, by its analysis and by its search, for the fourth power of the number of its points,
+LEAST_ASKED, MOST_ASKED = 10_000_000, 60_000_000  # within these
+LEAST_LEFT = 1_000_000  # how much the search may ask at least, however much the analysis did
 MOST_MAKINGS = 64  # of steps
 
-greatest, show_note = reached.greatest, report.show_note
+ask, greatest, show_note = solve.Finder.ask, reached.greatest, report.show_note
 
 
-def multipliers(answer):
-    """How many multipliers an answer has: one for each row of a case that it is about."""
-    if answer[0] == "yes":
-        return len(answer[1])
-    if answer[0] == "bound":
-        return sum(len(by) for _, _, by in answer[2])
-    if answer[0] == "basis":
-        return sum(len(tie[1]) + len(tie[3]) for _, _, _, ties in answer[1] for tie in ties)
-    return 0
+def weight(question):
+    """How much it takes to answer a question, roughly: the square of the number of rows where it is asked whether these can be met, else the
+    number of rows of its cases, once for each term where relations are asked."""
+    if question[0] == "infeasible":
+        return len(question[1]) ** 2
+    return sum(len(rows) * (len(terms) if question[0] == "stratum" else 1) for rows, terms in question[1])
+
+
+class Spent(Exception):
+    """A question is too much."""
+
+
+class Asker:
+    """Asks a finder no more than so much."""
+
+    def __init__(self, left):
+        self.finder, self.left = solve.Finder(), left
+
+    def ask(self, question):
+        if self.left < weight(question):
+            raise Spent
+        self.left -= weight(question)
+        return self.finder.ask(question)
+
+
+def counted(finder, question):
+    finder.asked = getattr(finder, "asked", 0) + weight(question)
+    return ask(finder, question)
 
 
 class Search(reached.Reached):
     def __init__(self, *given):
-        self.bounds, self.judgements, self.multipliers = MOST_BOUNDS, MOST_JUDGEMENTS, MOST_MULTIPLIERS
+        self.bounds, self.judgements = MOST_BOUNDS, MOST_JUDGEMENTS
         self.is_cut = self.is_given_up = False
         super().__init__(*given)
         if self.is_cut:
@@ -35,6 +54,10 @@ class Search(reached.Reached):
 
     def found(self):
         program, graphs, count = self.program, self.graphs, len(self.program.procs)
+        points = sum(1 + len(reached.heads(it)) for it in graphs)
+        most = min(max(ASKED_BY_POINTS * points**4, LEAST_ASKED), MOST_ASKED)
+        self.asker = Asker(max(most - getattr(self.work.oracle, "asked", 0), LEAST_LEFT))
+        self.quarter = self.asker.left // 4
         every = candidates.shared_rows(program)
         by_call = [candidates.by_callers(program, graphs, q) for q in range(count)]
         rows = {(p, "exit"): candidates.exit_rows(program, p, by_call[p][1], every)[: reached.MOST_CANDIDATES] for p in range(count) if p != program.main}
@@ -66,13 +89,14 @@ class Search(reached.Reached):
         return not self.is_given_up and super().verdict(*given)
 
     def made(self, procs, rows, arrivals):
-        """Makes the arrivals of steps of these procedures; whether their answers do not have too many multipliers."""
-        work = Work(Finder(), "search")
-        for p in procs:
-            arrivals[p] = [(s.target, reached.Arrival(s, case, self.program.width(p))) for s in self.steps_of(p, rows, work) for case in s.formula.cases]
-        taken = sum(multipliers(answer) for answer in work.answers)
-        self.multipliers = max(self.multipliers - taken, 0)
-        return taken < MOST_AT_ONCE
+        """Makes the arrivals of steps of these procedures; whether what this asks is not too much."""
+        work = Work(self.asker, "search")
+        try:
+            for p in procs:
+                arrivals[p] = [(s.target, reached.Arrival(s, case, self.program.width(p))) for s in self.steps_of(p, rows, work) for case in s.formula.cases]
+        except Spent:
+            return False
+        return True
 
     def kept(self, rows, arrivals):
         """Drops rows, and makes steps anew where rows at exits fell, of which none is left where that was done too often; whether it
@@ -87,7 +111,7 @@ class Search(reached.Reached):
             stale |= {p for p in arrivals if called[p] & fell}
             if not stale:
                 return True
-            if not self.multipliers:
+            if self.asker.left < self.quarter:
                 break
             due = {p for p in stale if not (called[p] - {p}) & stale} or stale
             if not self.made(due, rows, arrivals):
@@ -140,6 +164,7 @@ class Search(reached.Reached):
             self.is_cut |= not arrival.is_paid
 
 
+solve.Finder.ask = counted
 reached.Reached = Search
 reached.greatest = lambda direction, coming: greatest(direction, coming) if all(it.is_paid for it in coming) else None
 report.show_note = lambda note, blocks: "note search beyond" if note[0] == "search" else show_note(note, blocks)

@@ -117,7 +117,7 @@ fn versions_told(
     ensures { IfOk result
         (λ told. AreTold texts.now told.0.bytes.items told.1 session.new.last) }
 {
-    let mut finder = Finder::new(alloc);
+    let mut finder = Finder::keeping(alloc)?;
     let mut lines = ReplyText {
         bytes: Vec::new(alloc),
     };

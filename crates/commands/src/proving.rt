@@ -39,6 +39,7 @@ fn program_proof(
     let program = with_rule(program, 4);
     let plan = plan(alloc, &program)?;
     let places = places_of(alloc, text, program.checks.as_slice())?;
+    let searcher = finder.beside(alloc)?;
     let mut log = Log::new(alloc);
     prove(
         alloc,
@@ -46,6 +47,7 @@ fn program_proof(
         places.as_slice(),
         plan.as_slice(),
         finder,
+        searcher,
         &mut log,
     )
 }
@@ -56,7 +58,9 @@ fn text_proof(alloc: Global, text: &[u8]) -> Result<PointReport, TextError>
     ensures { IsProofOf text.now result }
 {
     let program = read(alloc, text)?;
-    let mut finder = Finder::new(alloc);
+    let Ok(mut finder) = Finder::keeping(alloc) else {
+        return Err(TextError::Memory);
+    };
     match program_proof(alloc, text, program, &mut finder) {
         Ok(made) => Ok(made),
         Err(WorkError::Refused) => unreachable!(),

@@ -93,7 +93,9 @@ pub fn analysis_by_finder(alloc: Global, text: &[u8], rule: u32) -> Result<Analy
     requires rule { IsRule rule }
     ensures { IsFoundUnder rule text.now result }
 {
-    let mut finder = Finder::new(alloc);
+    let Ok(mut finder) = Finder::keeping(alloc) else {
+        return Err(TextError::Memory);
+    };
     match analysis_by_oracle(alloc, text, rule, &mut finder) {
         Ok(last) => Ok(last),
         Err(SubmitError::Text(refusal)) => Err(TextError::Refused(refusal)),

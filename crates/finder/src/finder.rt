@@ -1,30 +1,75 @@
-ghost use Rattle.std.specs.Prelude.{◌≡◌, IfOk};
+ghost use Rattle.std.specs.Prelude.{◌≡◌, IfOk, IfSome};
 ghost use Rattle.farkas_check.specs.declared.question.Question.TheVariants as question;
 ghost use Rattle.finder.specs.Found.{IsFound, IsFoundBySimplex};
 
-use crate::memo::Memo;
+use crate::prints::print_of;
+use crate::{KnownAnswers, weight};
 use elimination::stratum;
 use farkas_check::{Answer, AskError, Oracle, Question, Stratum, truth_of_passing};
 use linear_terms::Row;
 use simplex::{Endings, answer_with};
 use std::alloc::{AllocError, Global};
+use std::cell::RefCell;
+use std::rc::Rc;
 
 /// Answers each question by exact rational simplex, and by elimination where a question about
 /// relations met a limit. What an answer is, and when it is a limit, is told by `IsFound`. It keeps
-/// where the last suprema ended and the last answers about rows; what it may answer does not depend
-/// on that.
+/// where the last suprema ended, and may keep its answers about rows; what it may answer does not
+/// depend on that.
 #[derive(Drop)]
 pub struct Finder {
     endings: Endings,
-    memo: Memo,
+    known: Option<Rc<RefCell<KnownAnswers>>>,
 }
 
 impl Finder {
-    /// A finder that was asked nothing yet, which takes no memory.
+    /// A finder that was asked nothing yet and keeps no answers, which takes no memory.
     pub fn new(alloc: Global) -> Finder {
         Finder {
             endings: Endings::new(alloc),
-            memo: Memo::new(alloc),
+            known: None,
+        }
+    }
+
+    /// A finder that was asked nothing yet and keeps its answers about rows.
+    pub fn keeping(alloc: Global) -> Result<Finder, AllocError> {
+        let known = Rc::new(alloc, RefCell::new(KnownAnswers::new(alloc)))?;
+        Ok(Finder {
+            endings: Endings::new(alloc),
+            known: Some(known),
+        })
+    }
+
+    /// Another finder that was asked nothing yet. What one of them keeps, the other knows.
+    pub fn beside(&self, alloc: Global) -> Result<Finder, AllocError> {
+        let known = match &self.known {
+            Some(known) => Some(known.clone()?),
+            None => None,
+        };
+        Ok(Finder {
+            endings: Endings::new(alloc),
+            known,
+        })
+    }
+
+    /// The weights of what this finder and those beside it were asked, added up; 0 where it keeps
+    /// nothing.
+    pub fn weight_so_far(&self) -> u64 {
+        match &self.known {
+            Some(known) => match known.try_borrow() {
+                Ok(known) => known.weight,
+                Err(_) => 0,
+            },
+            None => 0,
+        }
+    }
+}
+
+/// Adds the weight of a question to those of what was asked.
+fn count(question: &Question, known: &Option<Rc<RefCell<KnownAnswers>>>) {
+    if let Some(known) = known {
+        if let Ok(mut known) = known.try_borrow_mut() {
+            known.weight = known.weight.saturating_add(weight(question));
         }
     }
 }
@@ -42,7 +87,8 @@ impl Oracle for Finder {
 
     fn ask(&mut self, alloc: Global, question: &Question) -> Result<Answer, AskError> {
         truth_of_passing();
-        match answer_for(alloc, question, &mut self.endings, &mut self.memo) {
+        count(question, &self.known);
+        match answer_for(alloc, question, &mut self.endings, &self.known) {
             Ok(found) => Ok(found),
             Err(_) => Err(AskError::Memory),
         }
@@ -54,13 +100,13 @@ fn answer_for(
     alloc: Global,
     question: &Question,
     endings: &mut Endings,
-    memo: &mut Memo,
+    known: &Option<Rc<RefCell<KnownAnswers>>>,
 ) -> Result<Answer, AllocError>
     ensures { IfOk result (IsFound question.now) }
 {
-    match question {
-        Question::Infeasible(rows) => {
-            answer_for_rows(alloc, question, rows.as_slice(), endings, memo)
+    match (question, known) {
+        (Question::Infeasible(rows), Some(known)) => {
+            answer_for_rows(alloc, question, rows.as_slice(), endings, known)
         }
         _ => finder_answer(alloc, question, endings),
     }
@@ -73,18 +119,45 @@ fn answer_for_rows(
     asked: &Question,
     rows: &[Row],
     endings: &mut Endings,
-    memo: &mut Memo,
+    known: &RefCell<KnownAnswers>,
 ) -> Result<Answer, AllocError>
     requires { asked.now ≡ question.Infeasible rows.now }
     ensures { IfOk result (IsFound asked.now) }
 {
-    match memo.answer_to(rows)? {
-        Some(kept) => Ok(kept),
-        None => {
-            let found = finder_answer(alloc, asked, endings)?;
-            memo.note(alloc, rows, &found)?;
-            Ok(found)
-        }
+    let print = print_of(rows);
+    if let Some(kept) = kept_answer(print, rows, known)? {
+        return Ok(kept);
+    }
+    let found = finder_answer(alloc, asked, endings)?;
+    keep_answer(alloc, print, rows, &found, known)?;
+    Ok(found)
+}
+
+fn kept_answer(
+    print: u64,
+    rows: &[Row],
+    known: &RefCell<KnownAnswers>,
+) -> Result<Option<Answer>, AllocError>
+    ensures { IfOk result (λ kept. IfSome kept (IsFound (question.Infeasible rows.now))) }
+{
+    match known.try_borrow() {
+        Ok(known) => known.answer_to(print, rows),
+        Err(_) => Ok(None),
+    }
+}
+
+fn keep_answer(
+    alloc: Global,
+    print: u64,
+    rows: &[Row],
+    found: &Answer,
+    known: &RefCell<KnownAnswers>,
+) -> Result<(), AllocError>
+    requires { IsFound (question.Infeasible rows.now) found.now }
+{
+    match known.try_borrow_mut() {
+        Ok(mut known) => known.note(alloc, print, rows, found),
+        Err(_) => Ok(()),
     }
 }
 

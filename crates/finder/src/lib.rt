@@ -2,6 +2,10 @@
 #![tactic(auto)]
 
 mod finder;
-mod memo;
+mod known;
+mod prints;
+mod weights;
 
 pub use finder::Finder;
+pub use known::KnownAnswers;
+pub use weights::weight;

@@ -11,6 +11,7 @@ ghost use Rattle.point_reports.specs.Proof.{rounds_of, rounds_on};
 
 use analysis::{FoundReport, Standing};
 use farkas_check::Oracle;
+use finder::Finder;
 use items::Items;
 use point_rounds::{PointRound, PointTable, RoundSource, last_round};
 use point_search::{FoundTable, found_table};
@@ -42,6 +43,7 @@ pub(crate) fn rounds_apart<O: Oracle>(
     alloc: Global,
     ground: PointGround<'_>,
     oracle: &mut O,
+    searcher: Finder,
     log: &mut Log,
 ) -> Result<(RoundsTold, Items<Note>), WorkError>
     requires { IsPointGround ground }
@@ -53,7 +55,7 @@ pub(crate) fn rounds_apart<O: Oracle>(
         → IfOk result (λ left. IfSome left.0.round (IsKnownAtPoints ground.entry.program.now)) }
 {
     let others = mem::replace(&mut log.notes, Items::new(alloc));
-    let result = rounds_on(alloc, ground, oracle, log);
+    let result = rounds_on(alloc, ground, oracle, searcher, log);
     let notes = mem::replace(&mut log.notes, others);
     Ok((result?, notes))
 }
@@ -64,6 +66,7 @@ fn rounds_on<O: Oracle>(
     alloc: Global,
     ground: PointGround<'_>,
     oracle: &mut O,
+    searcher: Finder,
     log: &mut Log,
 ) -> Result<RoundsTold, WorkError>
     requires { IsPointGround ground }
@@ -90,7 +93,7 @@ fn rounds_on<O: Oracle>(
         known: made.known.as_slice(),
         states: states.as_slice(),
     };
-    let FoundTable { table, is_cut } = found_table(alloc, source)?;
+    let FoundTable { table, is_cut } = found_table(alloc, source, searcher)?;
     let round = rounds_of(alloc, source, table, oracle, log)?;
     Ok(RoundsTold { round, is_cut })
 }

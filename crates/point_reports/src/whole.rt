@@ -16,6 +16,7 @@ use crate::blocks::rows_of_table;
 use crate::rounds::{PointGround, RoundsTold, rounds_apart};
 use analysis::{FoundReport, Planned, TextPlace, findings_by_plan, found_report, standing_of};
 use farkas_check::Oracle;
+use finder::Finder;
 use items::Items;
 use point_rounds::all_heads;
 use posing::{Log, Note, WorkError};
@@ -47,6 +48,7 @@ pub fn prove<O: Oracle>(
     places: &[TextPlace],
     plan: &[Planned],
     oracle: &mut O,
+    searcher: Finder,
     log: &mut Log,
 ) -> Result<PointReport, WorkError>
     requires formed { IsWellFormed program.now }
@@ -61,7 +63,7 @@ pub fn prove<O: Oracle>(
 {
     let found = findings_by_plan(alloc, program, plan, oracle, log)?;
     let made = found_report(alloc, program, places, found, oracle, log)?;
-    points_if_open(alloc, program, made, oracle, log)
+    points_if_open(alloc, program, made, oracle, searcher, log)
 }
 
 /// The report with what holds at points where some assertion is not proved, else as it is.
@@ -70,6 +72,7 @@ fn points_if_open<O: Oracle>(
     program: &Program,
     made: FoundReport,
     oracle: &mut O,
+    searcher: Finder,
     log: &mut Log,
 ) -> Result<PointReport, WorkError>
     requires formed { IsWellFormed program.now }
@@ -83,7 +86,7 @@ fn points_if_open<O: Oracle>(
     if are_all_proved(&made.report) {
         return Ok(without_points(alloc, made));
     }
-    with_points(alloc, program, made, oracle, log)
+    with_points(alloc, program, made, oracle, searcher, log)
 }
 
 fn are_all_proved(report: &Report) -> bool
@@ -110,6 +113,7 @@ fn with_points<O: Oracle>(
     program: &Program,
     made: FoundReport,
     oracle: &mut O,
+    searcher: Finder,
     log: &mut Log,
 ) -> Result<PointReport, WorkError>
     requires formed { IsWellFormed program.now }
@@ -128,7 +132,7 @@ fn with_points<O: Oracle>(
         heads: heads.as_slice(),
         made: &made,
     };
-    let (told, own) = rounds_apart(alloc, ground, oracle, log)?;
+    let (told, own) = rounds_apart(alloc, ground, oracle, searcher, log)?;
     let RoundsTold { round, is_cut } = told;
     match round {
         Some(round) => {

@@ -127,7 +127,7 @@ fn raise_tops(
         return Ok(());
     }
     let rows = copies_of(alloc, arrival.case.rows.as_slice())?;
-    let mut search = search_over(alloc, rows)?;
+    let mut search = search_over(alloc, rows);
     let posts = posts_at_end(arrival);
     for (place, d) in directions.iter().enumerate() {
         if place < tops.len() && !is_endless(tops[place], own) {

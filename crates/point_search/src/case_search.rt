@@ -30,7 +30,8 @@ pub(crate) struct CaseSearch {
     own: usize,
     /// The numbers of the rows that were given.
     given: Items<u32>,
-    /// Where no point makes the rows true, the numbers of those that were given which show it.
+    /// Where it is known that no point makes the rows true, the numbers of those that were given
+    /// which show it.
     empty_by: Option<Items<u32>>,
 }
 
@@ -42,7 +43,7 @@ pub(crate) struct GivenRows<'a> {
 }
 
 /// The search over rows.
-pub(crate) fn search_over(alloc: Global, rows: Items<Row>) -> Result<CaseSearch, AllocError> {
+pub(crate) fn search_over(alloc: Global, rows: Items<Row>) -> CaseSearch {
     let own = rows.len();
     search_by(alloc, rows, own, Items::new(alloc))
 }
@@ -64,7 +65,7 @@ pub(crate) fn search_under(
             }
         }
     }
-    search_by(alloc, rows, own.len(), numbers)
+    Ok(search_by(alloc, rows, own.len(), numbers))
 }
 
 /// Adds what a given row says where its columns are the posts; whether it can be true.
@@ -122,26 +123,14 @@ fn no_points(alloc: Global, number: u32) -> Result<CaseSearch, AllocError> {
 }
 
 /// The search over rows, of which the last ones were given.
-fn search_by(
-    alloc: Global,
-    rows: Items<Row>,
-    own: usize,
-    given: Items<u32>,
-) -> Result<CaseSearch, AllocError> {
-    let mut finder = Finder::new(alloc);
-    let question = Question::Infeasible(rows);
-    let answer = answer_to(alloc, &question, &mut finder)?;
-    let empty_by = match &answer {
-        Answer::Yes(by) => Some(reasons_by(alloc, own, given.as_slice(), by.as_slice())?),
-        _ => None,
-    };
-    Ok(CaseSearch {
-        finder,
-        rows: rows_of(alloc, question),
+fn search_by(alloc: Global, rows: Items<Row>, own: usize, given: Items<u32>) -> CaseSearch {
+    CaseSearch {
+        finder: Finder::new(alloc),
+        rows,
         own,
         given,
-        empty_by,
-    })
+        empty_by: None,
+    }
 }
 
 fn answer_to(
@@ -240,7 +229,30 @@ impl CaseSearch {
             return Ok(WholeTop::Nowhere);
         }
         let answer = self.answer(alloc, objective)?;
+        if self.finds_no_points(alloc, &answer)? {
+            return Ok(WholeTop::Nowhere);
+        }
         Ok(top_in(&answer))
+    }
+
+    /// Whether no point makes the rows true, where an answer about an objective leaves it open. Then
+    /// it is known from now on. There are points for the most part, so it is asked only here.
+    fn finds_no_points(&mut self, alloc: Global, answer: &Answer) -> Result<bool, AllocError> {
+        match answer {
+            Answer::Limit(_) => {}
+            _ => return Ok(false),
+        }
+        let question = Question::Infeasible(mem::replace(&mut self.rows, Items::new(alloc)));
+        let found = answer_to(alloc, &question, &mut self.finder)?;
+        self.rows = rows_of(alloc, question);
+        match &found {
+            Answer::Yes(by) => {
+                let given = self.given.as_slice();
+                self.empty_by = Some(reasons_by(alloc, self.own, given, by.as_slice())?);
+                Ok(true)
+            }
+            _ => Ok(false),
+        }
     }
 
     /// The answer about how great an objective gets.
@@ -310,11 +322,16 @@ impl CaseSearch {
         alloc: Global,
         objective: Poly,
     ) -> Result<Option<Items<u32>>, AllocError> {
-        if let Some(by) = &self.empty_by {
-            return Ok(Some(by.clone()?));
+        if self.empty_by.is_none() {
+            let answer = self.answer(alloc, objective)?;
+            if !self.finds_no_points(alloc, &answer)? {
+                return self.reasons_in(alloc, &answer);
+            }
         }
-        let answer = self.answer(alloc, objective)?;
-        self.reasons_in(alloc, &answer)
+        match &self.empty_by {
+            Some(by) => Ok(Some(by.clone()?)),
+            None => Ok(None),
+        }
     }
 
     /// By which given rows a bound below 0 is shown; none where the answer is none.

@@ -1,4 +1,5 @@
-use farkas_check::{Answer, Cert, Relation};
+use crate::asker::Asker;
+use finder::Finder;
 
 /// For how many pairs of a direction and a case of a step bounds are sought.
 const MOST_BOUNDS: usize = 100_000;
@@ -6,30 +7,44 @@ const MOST_BOUNDS: usize = 100_000;
 /// How many pairs of a row and a case of a step are judged.
 const MOST_JUDGEMENTS: usize = 200_000;
 
-/// For how many multipliers in answers steps are made.
-const MOST_MULTIPLIERS: usize = 6_000_000;
+/// How much may be asked of a program, by its analysis and by its search, for the fourth power of
+/// the number of its points. It is counted as weights of questions.
+const ASKED_BY_POINTS: u64 = 700;
 
-/// The search is given up where one making of steps has so many.
-const MOST_AT_ONCE: usize = 2_000_000;
+/// How much may be asked of a program with few points.
+const LEAST_ASKED: u64 = 10_000_000;
+
+/// How much may be asked of a program with many points.
+const MOST_ASKED: u64 = 60_000_000;
+
+/// How much the search may ask at least, however much the analysis did.
+const LEAST_LEFT: u64 = 1_000_000;
 
 /// How often rows are dropped by steps that are made by what is left at exits.
 pub(crate) const MOST_MAKINGS: usize = 64;
 
 /// What a search may still do, and whether it was cut, since that was not enough.
-#[derive(Clone, Copy)]
+#[derive(Drop)]
 pub(crate) struct SearchLeft {
     bounds: usize,
     pub(crate) judgements: usize,
-    pub(crate) multipliers: usize,
+    pub(crate) asker: Asker,
+    /// A quarter of what might be asked as the search began.
+    quarter: u64,
     pub(crate) is_cut: bool,
 }
 
 impl SearchLeft {
-    pub(crate) fn new() -> SearchLeft {
+    /// What a search for rows at so many points may do, of which the analysis asked the finder, or
+    /// those beside it, before.
+    pub(crate) fn new(finder: Finder, points: usize) -> SearchLeft {
+        let most = most_weight(points).saturating_sub(finder.weight_so_far());
+        let left = most.max(LEAST_LEFT);
         SearchLeft {
             bounds: MOST_BOUNDS,
             judgements: MOST_JUDGEMENTS,
-            multipliers: MOST_MULTIPLIERS,
+            asker: Asker::new(finder, left),
+            quarter: left / 4,
             is_cut: false,
         }
     }
@@ -44,45 +59,17 @@ impl SearchLeft {
         true
     }
 
-    /// Takes the multipliers of one making, and tells whether they are not too many.
-    pub(crate) fn takes_multipliers(&mut self, count: usize) -> bool {
-        self.multipliers = self.multipliers.saturating_sub(count);
-        count < MOST_AT_ONCE
+    /// Whether more than three quarters of what might be asked were.
+    pub(crate) fn is_nearly_spent(&self) -> bool {
+        self.asker.left < self.quarter
     }
 }
 
-/// How many multipliers answers have: one for each row of a case where no point makes it true, where
-/// it has a bound, and for each half of a tie. This grows with what was asked, and does not depend on
-/// how answers are found.
-pub(crate) fn multiplier_count(answers: &[Answer]) -> usize {
-    let mut count: usize = 0;
-    for answer in answers {
-        let own = match answer {
-            Answer::Yes(by) => by.len(),
-            Answer::Bound { certs, .. } => bound_count(certs.as_slice()),
-            Answer::Basis { relations, .. } => basis_count(relations.as_slice()),
-            _ => 0,
-        };
-        count = count.saturating_add(own);
-    }
-    count
-}
-
-fn bound_count(certs: &[Cert]) -> usize {
-    let mut count: usize = 0;
-    for cert in certs {
-        count = count.saturating_add(cert.by.len());
-    }
-    count
-}
-
-fn basis_count(relations: &[Relation]) -> usize {
-    let mut count: usize = 0;
-    for relation in relations {
-        for tie in relation.ties.as_slice() {
-            let both = tie.up.len().saturating_add(tie.down.len());
-            count = count.saturating_add(both);
-        }
-    }
-    count
+/// How much may be asked of a program with so many points.
+fn most_weight(points: usize) -> u64 {
+    let square = (points as u64).saturating_mul(points as u64);
+    let most = square
+        .saturating_mul(square)
+        .saturating_mul(ASKED_BY_POINTS);
+    most.max(LEAST_ASKED).min(MOST_ASKED)
 }

@@ -11,6 +11,7 @@ use crate::strongest::strongest;
 use crate::tables::{PlacesLeft, proc_count, table_of};
 use crate::texts::program_texts;
 use crate::tried::{TriedSource, put_exit_bounds, put_exit_rows, put_point_rows};
+use finder::Finder;
 use items::Items;
 use point_rounds::{PointTable, RoundSource, RowPlace};
 use std::alloc::{AllocError, Global};
@@ -27,7 +28,11 @@ pub struct FoundTable {
 /// A table of rows that may hold at the points and exits of a program's procedures: of the rows of
 /// the text and of bounds those that steps keep. What it finds is told by no contract but that it
 /// is a table, or none where the search was given up. The one error is want of memory.
-pub fn found_table(alloc: Global, source: RoundSource) -> Result<FoundTable, AllocError>
+pub fn found_table(
+    alloc: Global,
+    source: RoundSource,
+    finder: Finder,
+) -> Result<FoundTable, AllocError>
     requires { IsRoundSource source }
     ensures { IfOk result
         (λ found. IfSome found.table (IsTable source.entry.program.now)) }
@@ -38,7 +43,7 @@ pub fn found_table(alloc: Global, source: RoundSource) -> Result<FoundTable, All
         heads: source.heads,
     };
     let mut places = empty_places(alloc, source.heads)?;
-    let mut left = SearchLeft::new();
+    let mut left = SearchLeft::new(finder, point_count(source.heads));
     if !find_rows(alloc, source, numbers, &mut places, &mut left)? {
         return Ok(FoundTable {
             table: None,
@@ -54,6 +59,15 @@ pub fn found_table(alloc: Global, source: RoundSource) -> Result<FoundTable, All
         table: Some(table),
         is_cut: left.is_cut,
     })
+}
+
+/// How many points there are: the entry and the heads of each procedure.
+fn point_count(heads: &[Items<u32>]) -> usize {
+    let mut count: usize = 0;
+    for own in heads {
+        count = count.saturating_add(own.len()).saturating_add(1);
+    }
+    count
 }
 
 /// Finds the rows at places, and tells whether the search came to an end.
@@ -90,8 +104,7 @@ fn take_candidates(
 {
     let texts = program_texts(alloc, source)?;
     put_exit_rows(alloc, source, &texts, numbers, places)?;
-    let multipliers = make_all(alloc, source, PlacesLeft { numbers, places }, steps)?;
-    if !left.takes_multipliers(multipliers) {
+    if !make_all(alloc, source, PlacesLeft { numbers, places }, steps, left)? {
         return Ok(false);
     }
     let arrivals = all_arrivals(alloc, source, numbers, steps)?;
@@ -128,18 +141,16 @@ fn keep_rows(
         if !mark_stale(source, &before, &now, steps) {
             return Ok(true);
         }
-        if left.multipliers == 0 {
+        if left.is_nearly_spent() {
             break;
         }
-        let multipliers = make_next(alloc, source, PlacesLeft { numbers, places }, steps)?;
-        if !left.takes_multipliers(multipliers) {
+        if !make_next(alloc, source, PlacesLeft { numbers, places }, steps, left)? {
             return Ok(false);
         }
     }
     left.is_cut = true;
     drop_exits(alloc, source, numbers, places);
-    let multipliers = make_all(alloc, source, PlacesLeft { numbers, places }, steps)?;
-    if !left.takes_multipliers(multipliers) {
+    if !make_all(alloc, source, PlacesLeft { numbers, places }, steps, left)? {
         return Ok(false);
     }
     drop_by_steps(alloc, source, numbers, steps, &mut seen, places, left)

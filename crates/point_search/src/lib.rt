@@ -4,6 +4,7 @@
 #![tactic(auto)]
 
 mod arrivals;
+mod asker;
 mod bounds;
 mod case_search;
 mod counts;

@@ -3,13 +3,13 @@ ghost use Rattle.point_rounds.specs.Source.{IsRoundSource};
 ghost use Rattle.point_rounds.specs.Table.{IsTable};
 ghost use Rattle.point_search.specs.Parts.{part_of};
 
-use crate::counts::multiplier_count;
+use crate::asker::Asker;
+use crate::counts::SearchLeft;
 use crate::tables::{PlacesLeft, table_of};
-use finder::Finder;
 use flow_graph::{Act, Graph};
 use items::Items;
 use point_rounds::{PointState, PointTable, RoundSource, StepFrom, steps_by_table};
-use posing::Log;
+use posing::{Log, WorkError};
 use std::alloc::{AllocError, Global};
 
 /// The steps from the points of a procedure.
@@ -37,20 +37,20 @@ pub(crate) fn no_steps(alloc: Global, procs: u32) -> Result<Vec<OwnSteps>, Alloc
     Ok(all)
 }
 
-/// Makes all steps, by what is left at exits, and tells how many multipliers the answers have that
-/// this took.
+/// Makes all steps, by what is left at exits, and tells whether there was room for what this asks.
 pub(crate) fn make_all(
     alloc: Global,
     source: RoundSource,
     left: PlacesLeft,
     steps: &mut [OwnSteps],
-) -> Result<usize, AllocError>
+    counts: &mut SearchLeft,
+) -> Result<bool, AllocError>
     requires { IsRoundSource source }
 {
     for own in steps.iter_mut() {
         own.is_new = true;
     }
-    make_new(alloc, source, left, steps)
+    make_new(alloc, source, left, steps, counts)
 }
 
 /// Makes stale steps anew: those of procedures that call no other one with stale steps, or all where
@@ -60,7 +60,8 @@ pub(crate) fn make_next(
     source: RoundSource,
     left: PlacesLeft,
     steps: &mut [OwnSteps],
-) -> Result<usize, AllocError>
+    counts: &mut SearchLeft,
+) -> Result<bool, AllocError>
     requires { IsRoundSource source }
 {
     let waits = waiting(alloc, source, steps)?;
@@ -71,7 +72,7 @@ pub(crate) fn make_next(
     for (own, waits) in steps.iter_mut().zip(waits.iter()) {
         own.is_new = own.is_stale && (all_wait || !*waits);
     }
-    make_new(alloc, source, left, steps)
+    make_new(alloc, source, left, steps, counts)
 }
 
 /// Makes the steps that are to be new.
@@ -80,21 +81,21 @@ fn make_new(
     source: RoundSource,
     left: PlacesLeft,
     steps: &mut [OwnSteps],
-) -> Result<usize, AllocError>
+    counts: &mut SearchLeft,
+) -> Result<bool, AllocError>
     requires { IsRoundSource source }
 {
     let table = table_of(alloc, source, left)?;
-    let mut multipliers: usize = 0;
     for own in steps.iter_mut() {
         if own.is_new {
-            let mut log = Log::new(alloc);
-            own.made = steps_from(alloc, source, own.proc, &table, &mut log)?;
+            match steps_from(alloc, source, own.proc, &table, &mut counts.asker)? {
+                Some(made) => own.made = made,
+                None => return Ok(false),
+            }
             own.is_stale = false;
-            let own_count = multiplier_count(log.answers.as_slice());
-            multipliers = multipliers.saturating_add(own_count);
         }
     }
-    Ok(multipliers)
+    Ok(true)
 }
 
 /// Which procedures call another one with stale steps.
@@ -129,18 +130,17 @@ fn is_stale(steps: &[OwnSteps], proc: u32) -> bool {
     }
 }
 
-/// The steps from the points of a procedure. The log takes the answers.
+/// The steps from the points of a procedure; none where there is no room for what this asks.
 fn steps_from(
     alloc: Global,
     source: RoundSource,
     proc: u32,
     table: &PointTable,
-    log: &mut Log,
-) -> Result<Items<StepFrom>, AllocError>
+    asker: &mut Asker,
+) -> Result<Option<Items<StepFrom>>, AllocError>
     requires source { IsRoundSource source }
     requires table { IsTable source.program.now table.now }
 {
-    let mut finder = Finder::new(alloc);
     let from = count_before(source.states, proc);
     let to = count_before(source.states, proc.saturating_add(1));
     let own = RoundSource {
@@ -150,9 +150,11 @@ fn steps_from(
         known: source.known,
         states: part_of(source.states, from, to),
     };
-    match steps_by_table(alloc, own, table, &mut finder, log) {
-        Ok(steps) => Ok(steps),
-        Err(_memory) => Err(AllocError),
+    let mut log = Log::new(alloc);
+    match steps_by_table(alloc, own, table, asker, &mut log) {
+        Ok(steps) => Ok(Some(steps)),
+        Err(WorkError::Refused) => Ok(None),
+        Err(WorkError::Memory) => Err(AllocError),
     }
 }
 

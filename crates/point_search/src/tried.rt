@@ -266,7 +266,7 @@ fn searches_over(alloc: Global, cases: &[Case]) -> Result<Vec<CaseSearch>, Alloc
     let mut searches = Vec::new(alloc);
     for case in cases {
         let rows = copies_of(alloc, case.rows.as_slice())?;
-        searches.push(search_over(alloc, rows)?)?;
+        searches.push(search_over(alloc, rows))?;
     }
     Ok(searches)
 }

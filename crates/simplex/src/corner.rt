@@ -29,7 +29,7 @@ pub(crate) fn corner(
     ensures step { IfErr result (StopsBy (IsNumberStep t.now constants)) }
     ensures calm { (n : ℕ) → HasSquares n → HasSmallLines n t.now → IfErr result IsMemory }
 {
-    let mut point = Items::new(alloc);
+    let mut point = Items::from_vec(Vec::with_capacity(alloc, constants)?);
     for column in 0..constants {
         point.push(number_of(t, constants, column)?)?;
     }
@@ -106,7 +106,7 @@ pub(crate) fn ray(
     ensures step { IfErr result (StopsBy (IsSlopeStep t.now column up)) }
     ensures calm { (n : ℕ) → HasSquares n → HasSmallLines n t.now → IfErr result IsMemory }
 {
-    let mut made = Items::new(alloc);
+    let mut made = Items::from_vec(Vec::with_capacity(alloc, constants)?);
     for own in 0..constants {
         made.push(slope_of(t, column, up, own)?)?;
     }

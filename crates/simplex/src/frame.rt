@@ -7,11 +7,12 @@ use items::Items;
 use linear_terms::{Kind, Mono, Row};
 use std::alloc::{AllocError, Global};
 
-/// The kinds of the rows.
+/// The kinds of the rows, with room for that of an objective.
 pub(crate) fn kinds_of(alloc: Global, rows: &[Row]) -> Result<Items<Kind>, AllocError>
     ensures { IfOk result (λ kinds. kinds ≡ kinds_of rows.now) }
 {
-    let mut kinds = Items::new(alloc);
+    let room = rows.len().saturating_add(1);
+    let mut kinds = Items::from_vec(Vec::with_capacity(alloc, room)?);
     for row in rows {
         kinds.push(row.kind)?;
     }
@@ -41,7 +42,7 @@ fn lines_from(
     requires { length columns.now + 1 + length rows.now < 2 ^ 64 }
     ensures { IfOk result (λ lines. lines ≡ lines_from columns.now (length rows.now) 0 rows.now) }
 {
-    let mut lines = Items::new(alloc);
+    let mut lines = Items::from_vec(Vec::with_capacity(alloc, rows.len())?);
     for (place, row) in rows.iter().enumerate() {
         lines.push(whole_line(alloc, row, columns, place, rows.len())?)?;
     }
@@ -104,7 +105,7 @@ pub(crate) fn units_from(
     requires { first + count < 2 ^ 64 }
     ensures { IfOk result (λ made. made ≡ units_from first count) }
 {
-    let mut made = Items::new(alloc);
+    let mut made = Items::from_vec(Vec::with_capacity(alloc, count)?);
     for i in 0..count {
         made.push(first + i)?;
     }

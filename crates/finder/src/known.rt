@@ -6,10 +6,11 @@ use farkas_check::Answer;
 use items::Items;
 use linear_terms::Row;
 use std::alloc::{AllocError, Global};
+use std::collections::HashMap;
 use std::marker::Model;
 
-/// How many answers are kept.
-const KEPT: usize = 32;
+/// How many terms the kept rows have, before they are forgotten.
+const MOST_TERMS: usize = 1_000_000;
 
 /// An answer that was found to the question whether no point makes these rows true.
 #[derive(Drop)]
@@ -45,54 +46,64 @@ impl KnownAnswer {
     }
 }
 
-/// The last answers to questions about rows.
+/// Answers that were found to questions about rows, and how much was asked.
 #[derive(Drop)]
-pub(crate) struct Memo {
-    known: Vec<KnownAnswer>,
-    oldest: usize,
+pub struct KnownAnswers {
+    by_print: HashMap<u64, KnownAnswer>,
+    terms: usize,
+    /// The weights of all questions, added up.
+    pub(crate) weight: u64,
 }
 
-impl Memo {
+impl KnownAnswers {
     /// Nothing is known, which takes no memory.
-    pub(crate) fn new(alloc: Global) -> Memo {
-        Memo {
-            known: Vec::new(alloc),
-            oldest: 0,
+    pub fn new(alloc: Global) -> KnownAnswers {
+        KnownAnswers {
+            by_print: HashMap::new(alloc),
+            terms: 0,
+            weight: 0,
         }
     }
 
     /// A copy of the answer to the question about these rows, if it is kept.
-    pub(crate) fn answer_to(&self, rows: &[Row]) -> Result<Option<Answer>, AllocError>
+    pub(crate) fn answer_to(&self, print: u64, rows: &[Row]) -> Result<Option<Answer>, AllocError>
         ensures { IfOk result (λ kept. IfSome kept (IsFound (question.Infeasible rows.now))) }
     {
-        for known in self.known.iter() {
-            let kept = known.answer_to(rows)?;
-            if kept.is_some() {
-                return Ok(kept);
-            }
+        match self.by_print.get(&print) {
+            Some(known) => known.answer_to(rows),
+            None => Ok(None),
         }
-        Ok(None)
     }
 
-    /// Keeps a copy of an answer, in place of the oldest one where there are as many as are kept.
+    /// Keeps a copy of an answer. Where rows of so many terms are kept that there is no room, they
+    /// are forgotten first.
     pub(crate) fn note(
         &mut self,
         alloc: Global,
+        print: u64,
         rows: &[Row],
         answer: &Answer,
     ) -> Result<(), AllocError>
         requires { IsFound (question.Infeasible rows.now) answer.now }
     {
-        let next = known_answer(alloc, rows, answer)?;
-        if self.known.len() < KEPT {
-            self.known.push(next)?;
-        } else {
-            let place = self.oldest % self.known.len();
-            self.known[place] = next;
-            self.oldest = (place + 1) % KEPT;
+        if MOST_TERMS < self.terms {
+            self.by_print.clear();
+            self.terms = 0;
         }
+        let next = known_answer(alloc, rows, answer)?;
+        self.by_print.insert(print, next)?;
+        self.terms = self.terms.saturating_add(term_count(rows));
         Ok(())
     }
+}
+
+/// How many terms rows have.
+fn term_count(rows: &[Row]) -> usize {
+    let mut count: usize = 0;
+    for row in rows {
+        count = count.saturating_add(row.poly.terms().len());
+    }
+    count
 }
 
 fn known_answer(alloc: Global, rows: &[Row], answer: &Answer) -> Result<KnownAnswer, AllocError>

@@ -3,7 +3,7 @@ use Rattle.linear_terms.specs.declared.row.Row.{Row}
 use Rattle.farkas_check.specs.declared.answer.Answer.{Answer}
 use Rattle.farkas_check.specs.declared.question.Question.TheVariants as question
 use Rattle.finder.specs.Found.{IsFound}
-use Rattle.finder.proofs.memo.known_answer.Goals as goal
+use Rattle.finder.proofs.known.known_answer.Goals as goal
 
 pub invariant_of-result : goal.invariant_of-result
 invariant_of-result c =

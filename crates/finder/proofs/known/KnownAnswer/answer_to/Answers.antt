@@ -3,7 +3,7 @@ use Rattle.linear_terms.specs.declared.row.Row.{Row}
 use Rattle.farkas_check.specs.declared.answer.Answer.{Answer}
 use Rattle.farkas_check.specs.declared.question.Question.TheVariants as question
 use Rattle.finder.specs.Found.{IsFound}
-use Rattle.finder.proofs.memo.KnownAnswer.answer_to.Goals as goal
+use Rattle.finder.proofs.known.KnownAnswer.answer_to.Goals as goal
 
 pub returns-in_ok-copy : goal.returns-in_ok-copy
 returns-in_ok-copy c =
