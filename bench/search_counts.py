@@ -6,9 +6,10 @@ from summary import exit_columns
 
 MOST_BOUNDS = 100_000  # pairs of a direction and a case of a step
 MOST_JUDGEMENTS = 200_000  # pairs of a row and a case of a step
-ASKED_BY_POINTS = 700  # how much may be asked of a program, by its analysis and by its search, for the fourth power of the number of its points,
-LEAST_ASKED, MOST_ASKED = 10_000_000, 60_000_000  # within these
-LEAST_LEFT = 1_000_000  # how much the search may ask at least, however much the analysis did
+ASKED_BY_POINTS = 700  # how much the search may ask for the fourth power of the number of a program's points,
+MOST_FOR_FEW, MOST_FOR_MANY = 6_500_000, 30_000_000  # within these,
+ASKED_BEFORE = 3  # and one less for so much that the analysis asked,
+LEAST_ASKED = 1_000_000  # but so much at least
 MOST_MAKINGS = 64  # of steps
 
 ask, greatest, show_note = solve.Finder.ask, reached.greatest, report.show_note
@@ -55,8 +56,8 @@ class Search(reached.Reached):
     def found(self):
         program, graphs, count = self.program, self.graphs, len(self.program.procs)
         points = sum(1 + len(reached.heads(it)) for it in graphs)
-        most = min(max(ASKED_BY_POINTS * points**4, LEAST_ASKED), MOST_ASKED)
-        self.asker = Asker(max(most - getattr(self.work.oracle, "asked", 0), LEAST_LEFT))
+        most = min(max(ASKED_BY_POINTS * points**4, MOST_FOR_FEW), MOST_FOR_MANY)
+        self.asker = Asker(max(most - getattr(self.work.oracle, "asked", 0) // ASKED_BEFORE, LEAST_ASKED))
         self.quarter = self.asker.left // 4
         every = candidates.shared_rows(program)
         by_call = [candidates.by_callers(program, graphs, q) for q in range(count)]

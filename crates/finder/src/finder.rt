@@ -2,6 +2,7 @@ ghost use Rattle.std.specs.Prelude.{◌≡◌, IfOk, IfSome};
 ghost use Rattle.farkas_check.specs.declared.question.Question.TheVariants as question;
 ghost use Rattle.finder.specs.Found.{IsFound, IsFoundBySimplex};
 
+use crate::near::NearRows;
 use crate::prints::print_of;
 use crate::{KnownAnswers, weight};
 use elimination::stratum;
@@ -14,12 +15,13 @@ use std::rc::Rc;
 
 /// Answers each question by exact rational simplex, and by elimination where a question about
 /// relations met a limit. What an answer is, and when it is a limit, is told by `IsFound`. It keeps
-/// where the last suprema ended, and may keep its answers about rows; what it may answer does not
-/// depend on that.
+/// where the last suprema ended, and may keep its answers about rows and what serves when all rows
+/// but the last come again; what it may answer does not depend on that.
 #[derive(Drop)]
 pub struct Finder {
     endings: Endings,
     known: Option<Rc<RefCell<KnownAnswers>>>,
+    near: NearRows,
 }
 
 impl Finder {
@@ -28,6 +30,7 @@ impl Finder {
         Finder {
             endings: Endings::new(alloc),
             known: None,
+            near: NearRows::new(alloc),
         }
     }
 
@@ -37,6 +40,7 @@ impl Finder {
         Ok(Finder {
             endings: Endings::new(alloc),
             known: Some(known),
+            near: NearRows::new(alloc),
         })
     }
 
@@ -49,6 +53,7 @@ impl Finder {
         Ok(Finder {
             endings: Endings::new(alloc),
             known,
+            near: NearRows::new(alloc),
         })
     }
 
@@ -88,7 +93,8 @@ impl Oracle for Finder {
     fn ask(&mut self, alloc: Global, question: &Question) -> Result<Answer, AskError> {
         truth_of_passing();
         count(question, &self.known);
-        match answer_for(alloc, question, &mut self.endings, &self.known) {
+        let near = &mut self.near;
+        match answer_for(alloc, question, &mut self.endings, &self.known, near) {
             Ok(found) => Ok(found),
             Err(_) => Err(AskError::Memory),
         }
@@ -101,12 +107,13 @@ fn answer_for(
     question: &Question,
     endings: &mut Endings,
     known: &Option<Rc<RefCell<KnownAnswers>>>,
+    near: &mut NearRows,
 ) -> Result<Answer, AllocError>
     ensures { IfOk result (IsFound question.now) }
 {
     match (question, known) {
         (Question::Infeasible(rows), Some(known)) => {
-            answer_for_rows(alloc, question, rows.as_slice(), endings, known)
+            answer_for_rows(alloc, question, rows.as_slice(), endings, known, near)
         }
         _ => finder_answer(alloc, question, endings),
     }
@@ -120,6 +127,7 @@ fn answer_for_rows(
     rows: &[Row],
     endings: &mut Endings,
     known: &RefCell<KnownAnswers>,
+    near: &mut NearRows,
 ) -> Result<Answer, AllocError>
     requires { asked.now ≡ question.Infeasible rows.now }
     ensures { IfOk result (IsFound asked.now) }
@@ -128,7 +136,14 @@ fn answer_for_rows(
     if let Some(kept) = kept_answer(print, rows, known)? {
         return Ok(kept);
     }
-    let found = finder_answer(alloc, asked, endings)?;
+    let found = match near.answer_to(alloc, asked, rows)? {
+        Some(found) => found,
+        None => {
+            let found = finder_answer(alloc, asked, endings)?;
+            near.note(&found)?;
+            found
+        }
+    };
     keep_answer(alloc, print, rows, &found, known)?;
     Ok(found)
 }

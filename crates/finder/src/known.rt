@@ -2,6 +2,7 @@ ghost use Rattle.std.specs.Prelude.{◌≡◌, IsTrue, IfOk, IfSome};
 ghost use Rattle.farkas_check.specs.declared.question.Question.TheVariants as question;
 ghost use Rattle.finder.specs.Found.{IsFound};
 
+use crate::copies::copies_of;
 use farkas_check::Answer;
 use items::Items;
 use linear_terms::Row;
@@ -112,16 +113,6 @@ fn known_answer(alloc: Global, rows: &[Row], answer: &Answer) -> Result<KnownAns
     let rows = copies_of(alloc, rows)?;
     let answer = answer.clone()?;
     Ok(KnownAnswer { rows, answer })
-}
-
-fn copies_of(alloc: Global, rows: &[Row]) -> Result<Items<Row>, AllocError>
-    ensures { IfOk result (λ copies. copies ≡ rows.now) }
-{
-    let mut copies = Items::from_vec(Vec::with_capacity(alloc, rows.len())?);
-    for row in rows {
-        copies.push(row.clone()?)?;
-    }
-    Ok(copies)
 }
 
 fn are_rows(own: &[Row], rows: &[Row]) -> bool

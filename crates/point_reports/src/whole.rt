@@ -36,7 +36,9 @@ pub struct PointReport {
 /// The report of a program by its plan, whose assertions stand at these places of its text, with what
 /// holds at points. The log gains the answers that were taken, in the order of their questions, and no notes:
 /// these stand in the report. What is found for points is believed of nothing: any table of rows
-/// is tested by rounds of questions, and what they leave is told.
+/// is tested by rounds of questions, and what they leave is told. The searcher answers what the
+/// search for a table asks. No claim depends on it; which rows are found does, and so does how soon
+/// the search ends, since what the searcher and those beside it were asked before counts.
 ///
 /// # Errors
 ///

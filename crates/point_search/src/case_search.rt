@@ -225,7 +225,7 @@ fn rows_of_first(alloc: Global, goals: Items<Goal>) -> Items<Row> {
 impl CaseSearch {
     /// How great an objective gets.
     pub(crate) fn top(&mut self, alloc: Global, objective: Poly) -> Result<WholeTop, AllocError> {
-        if self.empty_by.is_some() {
+        if self.is_empty() {
             return Ok(WholeTop::Nowhere);
         }
         let answer = self.answer(alloc, objective)?;
@@ -235,24 +235,33 @@ impl CaseSearch {
         Ok(top_in(&answer))
     }
 
-    /// Whether no point makes the rows true, where an answer about an objective leaves it open. Then
-    /// it is known from now on. There are points for the most part, so it is asked only here.
+    /// Whether it is known that no point makes the rows true.
+    pub(crate) fn is_empty(&self) -> bool {
+        self.empty_by.is_some()
+    }
+
+    /// Whether no point makes the rows true, where an answer about an objective leaves it open.
+    /// There are points for the most part, so it is asked only here.
     fn finds_no_points(&mut self, alloc: Global, answer: &Answer) -> Result<bool, AllocError> {
         match answer {
-            Answer::Limit(_) => {}
-            _ => return Ok(false),
-        }
-        let question = Question::Infeasible(mem::replace(&mut self.rows, Items::new(alloc)));
-        let found = answer_to(alloc, &question, &mut self.finder)?;
-        self.rows = rows_of(alloc, question);
-        match &found {
-            Answer::Yes(by) => {
-                let given = self.given.as_slice();
-                self.empty_by = Some(reasons_by(alloc, self.own, given, by.as_slice())?);
-                Ok(true)
+            Answer::Limit(_) => {
+                self.find_points(alloc)?;
+                Ok(self.is_empty())
             }
             _ => Ok(false),
         }
+    }
+
+    /// Asks whether no point makes the rows true. If so, it is known from now on.
+    pub(crate) fn find_points(&mut self, alloc: Global) -> Result<(), AllocError> {
+        let question = Question::Infeasible(mem::replace(&mut self.rows, Items::new(alloc)));
+        let found = answer_to(alloc, &question, &mut self.finder)?;
+        self.rows = rows_of(alloc, question);
+        if let Answer::Yes(by) = &found {
+            let given = self.given.as_slice();
+            self.empty_by = Some(reasons_by(alloc, self.own, given, by.as_slice())?);
+        }
+        Ok(())
     }
 
     /// The answer about how great an objective gets.

@@ -1,15 +1,17 @@
 use crate::arrivals::{PointArrival, posts_at_end};
 use crate::case_search::{CaseSearch, GivenRows, search_under};
+use crate::counts::CaseJudgements;
 use crate::places::{RowsLeft, drops_at, numbers_left, put_left, rows_left, taken_rows};
 use items::Items;
 use linear_terms::{Poly, Row};
 use std::alloc::{AllocError, Global};
 
 /// What is known of a case of a step: how often rows had been dropped where it begins when it was
-/// asked last, and which rows it keeps.
+/// asked last, whether it had no points when it was searched last, and which rows it keeps.
 #[derive(Drop)]
 pub(crate) struct CaseSeen {
     drops: Option<usize>,
+    was_empty: Option<bool>,
     kept: Vec<KeptRow>,
 }
 
@@ -26,6 +28,7 @@ pub(crate) fn unseen(alloc: Global, count: usize) -> Result<Vec<CaseSeen>, Alloc
     for _case in 0..count {
         seen.push(CaseSeen {
             drops: None,
+            was_empty: None,
             kept: Vec::new(alloc),
         })?;
     }
@@ -41,7 +44,7 @@ pub(crate) fn drop_rows(
     arrivals: &[Vec<PointArrival>],
     seen: &mut [Vec<CaseSeen>],
     places: &mut [RowsLeft],
-    left: &mut usize,
+    left: &mut CaseJudgements,
 ) -> Result<bool, AllocError> {
     let most = count_rows(places).saturating_add(1);
     for _pass in 0..most {
@@ -71,7 +74,7 @@ fn drop_once(
     arrivals: &[Vec<PointArrival>],
     seen: &mut [Vec<CaseSeen>],
     places: &mut [RowsLeft],
-    left: &mut usize,
+    left: &mut CaseJudgements,
 ) -> Result<bool, AllocError> {
     for (proc, own) in arrivals.iter().enumerate() {
         if proc < seen.len() {
@@ -89,16 +92,14 @@ fn drop_in(
     arrivals: &[PointArrival],
     seen: &mut [CaseSeen],
     places: &mut [RowsLeft],
-    left: &mut usize,
+    left: &mut CaseJudgements,
 ) -> Result<bool, AllocError> {
     for (number, arrival) in arrivals.iter().enumerate() {
         if number < seen.len() && is_stale(places, *arrival, seen[number].drops) {
-            let count = rows_left(places, arrival.to).len();
-            if *left < count {
+            if !left.takes(rows_left(places, arrival.to).len()) {
                 return Ok(false);
             }
-            *left = left.saturating_sub(count);
-            drop_at(alloc, *arrival, &mut seen[number], places)?;
+            drop_at(alloc, *arrival, &mut seen[number], places, left)?;
         }
     }
     Ok(true)
@@ -114,12 +115,14 @@ fn is_stale(places: &[RowsLeft], arrival: PointArrival, seen: Option<usize>) -> 
     }
 }
 
-/// Drops the rows that a case does not keep.
+/// Drops the rows that a case does not keep. It is asked first whether the case has points where it
+/// had none before, or most cases have none; else a search that finds none is made twice.
 fn drop_at(
     alloc: Global,
     arrival: PointArrival,
     seen: &mut CaseSeen,
     places: &mut [RowsLeft],
+    judgements: &mut CaseJudgements,
 ) -> Result<(), AllocError> {
     seen.drops = Some(drops_at(places, arrival.from));
     let known = rows_known(alloc, seen, arrival, places)?;
@@ -127,8 +130,13 @@ fn drop_at(
         return Ok(());
     }
     let mut search = search_from(alloc, arrival, places)?;
+    if seen.was_empty.unwrap_or(judgements.are_mostly_empty()) {
+        search.find_points(alloc)?;
+    }
     let rows = taken_rows(alloc, places, arrival.to);
     let kept = rows_kept(alloc, arrival, rows, &known, &mut search, seen)?;
+    seen.was_empty = Some(search.is_empty());
+    judgements.count(search.is_empty());
     put_left(places, arrival.to, kept);
     Ok(())
 }

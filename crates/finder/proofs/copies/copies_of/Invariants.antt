@@ -1,5 +1,5 @@
 use Rattle.std.proofs.Common.{◌≡◌, ◌++◌, drop}
-use Rattle.finder.proofs.known.copies_of.Given as goal
+use Rattle.finder.proofs.copies.copies_of.Given as goal
 
 abbrev pub invariant-loop-row : goal.invariant-loop-row
 invariant-loop-row l = l.copies ++ drop l.row-index l.rows ≡ l.rows
