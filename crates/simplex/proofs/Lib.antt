@@ -55,8 +55,10 @@ pub mod Small
 pub mod Comparisons
 pub mod Memory
 -- The search: equations, inequalities and turns, from the frame of the rows on.
+pub mod UnitColumns
 pub mod RowTableaux
 pub mod Behind
+pub mod CornersByLines
 pub mod SpotFrames
 pub mod Denominators
 pub mod Echelons
@@ -76,6 +78,7 @@ pub mod WiderCorners
 pub mod WiderCases
 pub mod WiderColumns
 pub mod MergedColumns
+pub mod SpreadNumbers
 pub mod OwnColumns
 -- A raise: it begins at a corner, its goal grows, and no choice comes twice.
 pub mod Beginnings

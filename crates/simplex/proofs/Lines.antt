@@ -64,6 +64,12 @@ pub ruleset short_lines = (reduced-short)
 zero_product : (p z : ℤ) → z ≡ pos 0 → product_of p z ≡ Ok (pos 0)
 zero_product p z e = ap (product_of p) e ∙ ap (λ w. cond (fits w) (Ok w) (Err record { left = p; right = pos 0; times = true })) (*ℤ_comm p (pos 0) ∙ zero-*ℤ p)
 
+-- no multiple of 0 is another number
+pub multiple_of_nothing : (z by : ℤ) → z ≡ pos 0 → Ok (pos 0) ≡ product_of z by
+multiple_of_nothing z by e = sym (ap (λ w. product_of w by) e ∙ ap (λ w. cond (fits w) (Ok w) (Err record { left = pos 0; right = by; times = true })) (zero-*ℤ by))
+
+pub ruleset nothing_made = (multiple_of_nothing)
+
 -- a product is a number of 128 bits, so nothing more leaves them
 added : (q b : ℤ) → (product_of q b >>= λ y. sum_of (pos 0) y) ≡ product_of q b
 added q b = go (fits (q *ℤ b)) refl

@@ -1,8 +1,9 @@
 -- The columns of rows and an objective: a merge of the rows' own columns with the objective's
 -- monomials.
-use Rattle.std.proofs.Common.{◌≡◌, ◌+◌, List, [], ◌∷◌, ◌++◌, length, refl, sym, ap, subst, ◌∙◌, append_assoc, append-nil, arith, ℤ}
+use Rattle.std.proofs.Common.{◌≡◌, Bool, true, false, cond, List, [], ◌∷◌, ◌++◌, length, refl, sym, ap, subst, ◌∙◌, append_assoc, append-nil, arith, ℤ}
 use Rattle.std.specs.Map.{keys_of}
-use Rattle.std.specs.Ordering.{match_ordering, ordering_reverse}
+use Rattle.std.specs.Ordering.{eq_by_cmp, match_ordering, ordering_reverse}
+use Rattle.std.proofs.lemmas.Bool.{false≢true}
 use Rattle.std.specs.declared.cmp.Ordering.{Ordering}
 use Rattle.std.specs.declared.cmp.Ordering.TheVariants.{Less, Equal, Greater}
 use Rattle.linear_terms.specs.declared.col.Col.{Col}
@@ -13,7 +14,7 @@ use Rattle.linear_terms.specs.Polynomial.{Terms, IsCanonical}
 use Rattle.linear_terms.proofs.Order.{mono_tie}
 use Rattle.linear_terms.proofs.Canonical.{first_before, IsCanonical-tail}
 use Rattle.farkas_check.specs.Columns.{with_mono, in_print_order, monos_of, columns}
-use Rattle.farkas_check.proofs.Spreads.{AreAmong, AreAmong-itself}
+use Rattle.farkas_check.proofs.Spreads.{same_mono, is_among, AreAmong, AreAmong-itself}
 use Rattle.farkas_check.proofs.Walks.{IsBefore, IsOrdered, IsOrdered-columns, reversed}
 use Rattle.simplex.proofs.WiderColumns.{before-among, before-trans, in_order-among}
 
@@ -105,6 +106,32 @@ monos_of-append (row ∷ rows) terms = ap (λ (l : List (List Col)). keys_of row
 columns-merged : (rows : List Row) (terms : Terms) → columns rows terms ≡ in_print_order (columns rows [] ++ keys_of terms)
 columns-merged rows terms = ap in_print_order (monos_of-append rows terms) ∙ sym (in_print_order-twice (monos_of rows []) (keys_of terms))
 
+-- ---- monomials that are there
+
+in_print_order-ordered : (ms : List (List Col)) → IsOrdered ms → in_print_order ms ≡ ms
+in_print_order-ordered [] o = refl
+in_print_order-ordered (m ∷ ms) o = ap (with_mono m) (in_print_order-ordered ms o.1) ∙ with_mono-first m ms o.0
+
+with_mono-there : (m : List Col) (ms : List (List Col)) → is_among m ms ≡ true → with_mono m (in_print_order ms) ≡ in_print_order ms
+with_mono-there m [] h = absurd (false≢true h)
+with_mono-there m (x ∷ ms) h = go (eq_by_cmp mono_cmp m x) refl h (λ k. with_mono-there m ms k)
+  where
+    go : (t : Bool) → eq_by_cmp mono_cmp m x ≡ t → cond t true (is_among m ms) ≡ true → (is_among m ms ≡ true → with_mono m (in_print_order ms) ≡ in_print_order ms) → with_mono m (with_mono x (in_print_order ms)) ≡ with_mono x (in_print_order ms)
+    go true e k ih = subst (λ (y : List Col). with_mono m (with_mono y (in_print_order ms)) ≡ with_mono y (in_print_order ms)) (same_mono m x e) (with_mono-twice m (in_print_order ms))
+    go false e k ih = with_mono-swap m x (in_print_order ms) ∙ ap (with_mono x) (ih k)
+
+in_print_order-there : (ms ns : List (List Col)) → AreAmong ns ms → in_print_order (ms ++ ns) ≡ in_print_order ms
+in_print_order-there ms [] a = ap in_print_order (append-nil ms)
+in_print_order-there ms (n ∷ ns) a = in_print_order-move n ms ns ∙ ap (with_mono n) (in_print_order-there ms ns a.1) ∙ with_mono-there n ms a.0
+
+-- an objective whose monomials are all among those of the rows brings no column
+pub columns-own : (rows : List Row) (terms : Terms) (own : List (List Col)) → own ≡ columns rows [] → AreAmong (keys_of terms) own → columns rows terms ≡ own
+columns-own rows terms own e a =
+    columns-merged rows terms
+    ∙ in_print_order-there (columns rows []) (keys_of terms) (subst (AreAmong (keys_of terms)) e a)
+    ∙ in_print_order-ordered (columns rows []) (IsOrdered-columns (monos_of rows []))
+    ∙ sym e
+
 -- ---- one step of the merge
 
 before-all : (m : List Col) (ms ns : List (List Col)) → IsBefore m ns → AreAmong ms ns → IsBefore m ms
@@ -117,10 +144,6 @@ before-append m (x ∷ ms) ns a b = (a.0, before-append m ms ns a.1 b)
 
 in_print_order-first : (m : List Col) (ns : List (List Col)) → IsBefore m ns → with_mono m (in_print_order ns) ≡ m ∷ in_print_order ns
 in_print_order-first m ns b = with_mono-first m (in_print_order ns) (before-all m (in_print_order ns) ns b (in_order-among ns ns (AreAmong-itself ns)))
-
-in_print_order-ordered : (ms : List (List Col)) → IsOrdered ms → in_print_order ms ≡ ms
-in_print_order-ordered [] o = refl
-in_print_order-ordered (m ∷ ms) o = ap (with_mono m) (in_print_order-ordered ms o.1) ∙ with_mono-first m ms o.0
 
 keys-ordered : (terms : Terms) → IsCanonical terms → IsOrdered (keys_of terms)
 keys-ordered [] k = tt

@@ -1,10 +1,11 @@
 -- A corner of the rows with another objective as its goal.
-use Rattle.std.proofs.Common.{◌≡◌, ◌≢◌, ℕ, suc, ◌+◌, ◌<◌, ◌≤◌, Bool, true, false, cond, List, [], ◌∷◌, ◌++◌, drop, length, get_or, refl, sym, ap, subst, ◌∙◌, arith, ⊎_elim, Ok, ℤ, pos, ◌≤ℤ◌, ◌<ℤ◌}
+use Rattle.std.proofs.Common.{◌≡◌, ◌≢◌, ℕ, suc, ◌+◌, ◌<◌, ◌≤◌, Bool, true, false, cond, List, [], ◌∷◌, ◌++◌, drop, length, get_or, refl, sym, ap, subst, ◌∙◌, arith, ⊎_elim, Ok, ℤ, pos, negsuc, int_eq, ◌≤ℤ◌, ◌<ℤ◌}
 use Rattle.std.proofs.lemmas.Int.{ints}
 use Rattle.std.proofs.lemmas.Bool.{cases_eq, eq-eqb, ne_eqb, false≢true}
 use Rattle.items.specs.Gives.{◌>>=◌}
 use Rattle.items.proofs.Gives.{on_ok}
 use Rattle.whole_numbers.specs.Divisors.{gcd_of_all}
+use Rattle.whole_numbers.specs.Fits.{product_of}
 use Rattle.linear_terms.specs.declared.col.Col.{Col}
 use Rattle.linear_terms.specs.declared.row.Kind.{Kind}
 use Rattle.linear_terms.specs.declared.row.Kind.TheVariants.{AtMost, Equal}
@@ -12,7 +13,7 @@ use Rattle.linear_terms.specs.declared.row.Row.{Row}
 use Rattle.linear_terms.specs.Polynomial.{Polynomial}
 use Rattle.farkas_check.specs.Relations.{entry}
 use Rattle.simplex.specs.Endings.{cleared_line, IsFront, IsMetFor}
-use Rattle.simplex.specs.Exchange.{line_without, numbers_of, choices_of, HasShape, IsTableauOf, ArePrimitive}
+use Rattle.simplex.specs.Exchange.{sum_of_lines, reduced_line, line_without, numbers_of, choices_of, HasShape, IsTableauOf, ArePrimitive}
 use Rattle.simplex.specs.Frames.{IsOwnCombination, IsWholeTableau, IsCleared}
 use Rattle.simplex.specs.Raise.{Framed, enters_at, leaves_at}
 use Rattle.simplex.specs.Rows.{kinds_of, kind_at, whole_line, lines_from, framed_tableau}
@@ -78,6 +79,11 @@ goal_line-cleared goal units frame other t s shape (pivot ∷ pivots) place line
 -- one step of the code
 pub cleared-next : (lines : List (List ℤ)) (chosen : List ℕ) (place : ℕ) (pivot line made : List ℤ) → drop place lines ≡ pivot ∷ drop (place + 1) lines → line_without (get_or chosen place 0) pivot line ≡ Ok made → cleared_line (drop (place + 1) lines) chosen (place + 1) made ≡ cleared_line (drop place lines) chosen place line
 cleared-next lines chosen place pivot line made e f = sym (ap (λ ls. cleared_line ls chosen place line) e ∙ ap (λ r. r >>= λ w. cleared_line (drop (place + 1) lines) chosen (place + 1) w) f)
+
+-- a line that is 0 at the column stays as it is
+pub zero-cleared : (column : ℕ) (pivot line : List ℤ) → entry line column ≡ pos 0 → line_without column pivot line ≡ Ok line
+zero-cleared column pivot line e =
+    ap (λ z. cond (int_eq z (pos 0)) (Ok line) (product_of (entry line column) (negsuc 0) >>= λ q. sum_of_lines (entry pivot column) line q pivot >>= λ made. Ok (reduced_line made))) e
 
 -- ---- the frames of two objectives
 

@@ -1,13 +1,11 @@
 -- A supremum over the rows' own columns: what the steps of its search hand on.
-use Rattle.std.proofs.Common.{◌≡◌, ◌≢◌, ℕ, zero, suc, ◌+◌, ◌<◌, Bool, true, false, cond, List, [], ◌∷◌, ◌++◌, length, get_or, Result, Ok, Err, refl, sym, ap, subst, ◌∙◌, arith, ℤ, pos, ◌*ℤ◌, ◌<ℤ◌}
-use Rattle.std.specs.Prelude.{int_lt, IfOk, IfErr, IfSome, Option}
+use Rattle.std.proofs.Common.{◌≡◌, ◌≢◌, ℕ, zero, suc, ◌+◌, ◌<◌, Bool, true, false, cond, List, [], ◌∷◌, length, get_or, Result, Ok, Err, refl, sym, ap, subst, ◌∙◌, arith, ℤ, pos, ◌*ℤ◌, ◌<ℤ◌}
+use Rattle.std.specs.Prelude.{int_lt, IfOk, IfErr, IfSome, Option, None, Some}
 use Rattle.std.specs.Map.{keys_of}
 use Rattle.std.specs.Ordering.{eq_by_cmp, is_eq}
 use Rattle.std.specs.declared.cmp.Ordering.TheVariants.{Less}
 use Rattle.std.proofs.lemmas.Int.{ints}
 use Rattle.linear_terms.specs.declared.col.Col.{Col}
-use Rattle.linear_terms.specs.declared.row.Kind.{Kind}
-use Rattle.linear_terms.specs.declared.row.Kind.TheVariants.{AtMost}
 use Rattle.linear_terms.specs.declared.row.Row.{Row}
 use Rattle.linear_terms.specs.Mono.{mono_cmp}
 use Rattle.linear_terms.specs.Polynomial.{Terms, Polynomial, coefficient_in, IsCanonical}
@@ -18,12 +16,11 @@ use Rattle.farkas_check.specs.declared.stratum.Change.{Change}
 use Rattle.farkas_check.proofs.Spreads.{itself, same_mono, is_among, is_among-right, AreAmong}
 use Rattle.simplex.specs.Endings.{IsMetFor, StandsAt, FoundFor}
 use Rattle.simplex.specs.Differences.{IsDifferenceOf}
-use Rattle.simplex.specs.Raise.{Framed, sign_of}
+use Rattle.simplex.specs.Raise.{sign_of}
 use Rattle.simplex.specs.Refusal.{IsRefusalIn}
-use Rattle.simplex.specs.Rows.{kinds_of}
 use Rattle.simplex.specs.Search.{IsMet, IsCornerOf}
 use Rattle.simplex.specs.Strata.{IsAsked, IsCaseOf}
-use Rattle.simplex.specs.Suprema.{frame_over, own_frame, IsSupremumOver}
+use Rattle.simplex.specs.Suprema.{FramedKinds, frame_over, own_frame, case_over, IsSupremumOver}
 use Rattle.simplex.specs.Wider.{widened_numbers, unit_ray, widened_supremum, IsBesides, AreColumnsOf}
 use Rattle.simplex.specs.declared.differences.StrataQuestion.{StrataQuestion}
 use Rattle.simplex.specs.declared.gauss.Stage.{Stage}
@@ -34,7 +31,6 @@ use Rattle.simplex.specs.declared.supremum.Supremum.TheVariants as supremum
 use Rattle.simplex.specs.declared.tableau.Tableau.{Tableau}
 use Rattle.simplex.proofs.Apart.{difference-among}
 use Rattle.simplex.proofs.Further.{case_given}
-use Rattle.simplex.proofs.SameCases.{left_stands}
 use Rattle.simplex.proofs.WiderCases.{HasCorner}
 use Rattle.simplex.proofs.WiderColumns.{columns_of_case, empty_over, pivots_over, found_over, opened_over}
 
@@ -117,10 +113,15 @@ module _ (rows : List Row) (p : Polynomial) (cs own : List (List Col)) (a : AreC
 
 -- ---- what is left
 
-pub left_ends : {E : Type 0} (over : Framed) (kinds : List Kind) (cs : List (List Col)) (rows : List Row) (p : Polynomial) (r : Result (Supremum × Option Stage) E) → over ≡ frame_over cs rows p → kinds ≡ kinds_of rows ++ AtMost ∷ []
-    → IfOk r (λ x. IfSome x.1 (λ s. IsMet over (length cs) kinds s.enters s.tableau)) → IfOk r (λ x. IfSome x.1 (λ s. StandsAt cs rows s.enters s.tableau))
-left_ends over kinds cs rows p (Ok x) e f h = left_stands over kinds cs rows rows p x.1 e f refl h
-left_ends over kinds cs rows p (Err w) e f h = tt
+left_stands : (case : FramedKinds) (cs : List (List Col)) (rows : List Row) (p : Polynomial) (left : Option Stage) → case ≡ case_over cs rows p
+    → IfSome left (λ s. IsMet case.over (length cs) case.kinds s.enters s.tableau) → IfSome left (λ s. StandsAt cs rows s.enters s.tableau)
+left_stands case cs rows p None e h = tt
+left_stands case cs rows p (Some s) e h = record { objective = p; met = subst (λ (k : FramedKinds). IsMet k.over (length cs) k.kinds s.enters s.tableau) e h }
+
+pub left_ends : {E : Type 0} (case : FramedKinds) (cs : List (List Col)) (rows : List Row) (p : Polynomial) (r : Result (Supremum × Option Stage) E) → case ≡ case_over cs rows p
+    → IfOk r (λ x. IfSome x.1 (λ s. IsMet case.over (length cs) case.kinds s.enters s.tableau)) → IfOk r (λ x. IfSome x.1 (λ s. StandsAt cs rows s.enters s.tableau))
+left_ends case cs rows p (Ok x) e h = left_stands case cs rows p x.1 e h
+left_ends case cs rows p (Err w) e h = tt
 
 -- ---- the difference of a relation
 

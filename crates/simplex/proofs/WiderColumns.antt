@@ -46,10 +46,10 @@ before-apart : (c : List Col) (ds : List (List Col)) → IsBefore c ds → is_am
 before-apart c [] b = refl
 before-apart c (d ∷ ds) b = ap (λ (o : Ordering). cond (is_eq o) true (is_among c ds)) b.0 ∙ before-apart c ds b.1
 
-among-step : (m d : List Col) (ds : List (List Col)) → is_among m (d ∷ ds) ≡ true → eq_by_cmp mono_cmp m d ≡ false → is_among m ds ≡ true
+pub among-step : (m d : List Col) (ds : List (List Col)) → is_among m (d ∷ ds) ≡ true → eq_by_cmp mono_cmp m d ≡ false → is_among m ds ≡ true
 among-step m d ds h e = sym (ap (λ (o : Bool). cond o true (is_among m ds)) e) ∙ h
 
-among-rest : (m d : List Col) (ds : List (List Col)) → is_among m ds ≡ true → is_among m (d ∷ ds) ≡ true
+pub among-rest : (m d : List Col) (ds : List (List Col)) → is_among m ds ≡ true → is_among m (d ∷ ds) ≡ true
 among-rest m d ds h = is_among-right m (d ∷ []) ds h
 
 -- ---- own columns are a part

@@ -1,8 +1,10 @@
 -- Where the raise of an objective ended, and another objective in its place.
-use Rattle.std.specs.Prelude.{◌≡◌, ℕ, ◌+◌, ℤ, List, [], ◌∷◌, ◌++◌, get_or, length, Bool, Result, Ok}
+use Rattle.std.specs.Prelude.{◌≡◌, ℕ, ◌+◌, ℤ, pos, List, [], ◌∷◌, ◌++◌, get_or, length, Bool, if◌then◌else◌, Result, Ok}
+use Rattle.std.specs.Ordering.{eq_by_cmp}
 use Rattle.linear_terms.specs.declared.col.Col.{Col}
 use Rattle.linear_terms.specs.declared.row.Row.{Row}
-use Rattle.linear_terms.specs.Polynomial.{Polynomial}
+use Rattle.linear_terms.specs.Mono.{mono_cmp}
+use Rattle.linear_terms.specs.Polynomial.{Terms, Polynomial}
 use Rattle.items.specs.Gives.{◌>>=◌}
 use Rattle.farkas_check.specs.Columns.{columns}
 use Rattle.whole_numbers.specs.declared.wide.Wide as Step
@@ -12,6 +14,14 @@ use Rattle.simplex.specs.Search.{IsMet, FoundAt}
 use Rattle.simplex.specs.Suprema.{with_goal, frame_over}
 use Rattle.simplex.specs.declared.search.SearchEnd.{SearchEnd}
 use Rattle.simplex.specs.declared.tableau.Tableau.{Tableau}
+
+-- numbers of terms spread over columns: a column of the first term that is left takes its number, and
+-- another one 0
+abbrev pub spread : Terms → List (List Col) → List ℤ
+spread ts [] = []
+spread [] (c ∷ cs) = pos 0 ∷ spread [] cs
+spread (t ∷ ts) (c ∷ cs) = if eq_by_cmp mono_cmp t.0 c then t.1 ∷ spread ts cs
+    else pos 0 ∷ spread (t ∷ ts) cs
 
 -- a line cleared at the columns that lines choose, one after another; the first of them has this
 -- place

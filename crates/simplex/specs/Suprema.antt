@@ -37,6 +37,15 @@ frame_over cs rows p = record {
   frame = numbers_of (framed_tableau cs (with_goal rows p));
 }
 
+-- a frame, and the kinds of its lines
+pub record FramedKinds : Type 0 where
+  pub over : Framed
+  pub kinds : List Kind
+
+-- the frame of rows and an objective, and the kinds of its lines
+abbrev pub case_over : List (List Col) → List Row → Polynomial → FramedKinds
+case_over cs rows p = record { over = frame_over cs rows p; kinds = kinds_of (with_goal rows p) }
+
 -- the frame over the rows' own columns, in which a search for a corner of them begins
 abbrev pub own_frame : List Row → Polynomial → Framed
 own_frame rows p = frame_over (columns rows []) rows p

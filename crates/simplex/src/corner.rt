@@ -1,5 +1,5 @@
 ghost use Rattle.std.specs.Prelude.{◌≡◌, ◌≢◌, ◌+◌, ◌<◌, ◌≤◌, ◌<ℤ◌, pos, ℕ, length, get_or, MatchOption, IfOk, IfErr};
-ghost use Rattle.simplex.specs.Exchange.{IsTableauOf};
+ghost use Rattle.simplex.specs.Exchange.{IsTableauOf, choices_of};
 ghost use Rattle.farkas_check.specs.Relations.{entry};
 ghost use Rattle.simplex.specs.Raise.{Framed};
 ghost use Rattle.simplex.specs.Calm.{HasSquares, IsSmallLine, HasSmallLines, IsMemory};
@@ -15,7 +15,8 @@ use items::Items;
 use std::alloc::Global;
 use whole_numbers::Wide;
 
-/// The corner of a tableau: a number for each column of the question.
+/// The corner of a tableau: a number for each column of the question. It is 0 where no line chooses
+/// the column.
 pub(crate) fn corner(
     alloc: Global,
     t: &Tableau,
@@ -29,28 +30,31 @@ pub(crate) fn corner(
     ensures step { IfErr result (StopsBy (IsNumberStep t.now constants)) }
     ensures calm { (n : ℕ) → HasSquares n → HasSmallLines n t.now → IfErr result IsMemory }
 {
-    let mut point = Items::from_vec(Vec::with_capacity(alloc, constants)?);
-    for column in 0..constants {
-        point.push(number_of(t, constants, column)?)?;
+    let mut point = Vec::with_capacity(alloc, constants)?;
+    point.resize(constants, Ratio::whole(0))?;
+    for line in 0..t.lines.len() {
+        let column = t.chosen[line];
+        if column < constants {
+            point[column] = number_in(t, constants, line, column)?;
+        }
     }
-    Ok(point)
+    Ok(Items::from_vec(point))
 }
 
-/// What the corner has at a column.
-fn number_of(t: &Tableau, constants: usize, column: usize) -> Result<Ratio, Wide>
+/// What the corner has at the column that a line chooses.
+fn number_in(t: &Tableau, constants: usize, line: usize, column: usize) -> Result<Ratio, Wide>
     ghost over: { Framed }
     requires tableau { IsTableauOf over.units over.frame t.now }
     requires units { constants < over.units }
+    requires line { line < length t.now.lines }
+    requires chosen { choices_of t.now line ≡ column }
     requires column { column < constants }
     ensures corner { IfOk result (λ r. CornerAt t.now constants column r) }
     ensures width { IfErr result LeavesBits }
     ensures step { IfErr result (IsNumberStep t.now constants) }
     ensures calm { (n : ℕ) → HasSquares n → HasSmallLines n t.now → IfErr result (λ _. ⊥) }
 {
-    match line_choosing(t.chosen.as_slice(), column) {
-        Some(line) => chosen_number(t.lines[line].as_slice(), constants, column),
-        None => Ok(Ratio::whole(0)),
-    }
+    chosen_number(t.lines[line].as_slice(), constants, column)
 }
 
 /// What the corner has at the column that a line chooses: minus its constant over its number there.

@@ -1,10 +1,11 @@
 ghost use Rattle.std.specs.Prelude.{◌≡◌, ◌++◌, ◌+◌, ◌<◌, ◌^◌, ℕ, [], ◌∷◌, length, map, IfOk};
+ghost use Rattle.linear_terms.specs.declared.row.Kind.TheVariants.{AtMost};
 ghost use Rattle.linear_terms.specs.Polynomial.{coefficient_in};
 ghost use Rattle.simplex.specs.Rows.{kinds_of, coefficients, units_to, whole_line, lines_from, units_from, framed_tableau};
 
 use crate::Tableau;
 use items::Items;
-use linear_terms::{Kind, Mono, Row};
+use linear_terms::{Kind, Mono, Poly, Row};
 use std::alloc::{AllocError, Global};
 
 /// The kinds of the rows, with room for that of an objective.
@@ -44,39 +45,42 @@ fn lines_from(
 {
     let mut lines = Items::from_vec(Vec::with_capacity(alloc, rows.len())?);
     for (place, row) in rows.iter().enumerate() {
-        lines.push(whole_line(alloc, row, columns, place, rows.len())?)?;
+        lines.push(whole_line(alloc, &row.poly, columns, place, rows.len())?)?;
     }
     Ok(lines)
 }
 
-/// The line of a row, the place-th of so many.
+/// The line of a row with this polynomial, the place-th of so many.
 pub(crate) fn whole_line(
     alloc: Global,
-    row: &Row,
+    poly: &Poly,
     columns: &[Mono],
     place: usize,
     count: usize,
 ) -> Result<Items<i128>, AllocError>
     requires { length columns.now + 1 + count < 2 ^ 64 }
-    ensures { IfOk result (λ line. line ≡ whole_line columns.now count place row.now) }
+    ensures { IfOk result
+        (λ line. line ≡ whole_line columns.now count place
+        (record { poly = poly.now; kind = AtMost })) }
 {
-    let mut line = coefficients(alloc, row, columns, columns.len() + 1 + count)?;
-    line.push(row.poly.rest())?;
+    let mut line = coefficients(alloc, poly, columns, columns.len() + 1 + count)?;
+    line.push(poly.rest())?;
     with_units(line, place, count)
 }
 
-/// The row's numbers at the columns, with room for so many numbers in all.
+/// The polynomial's numbers at the columns, with room for so many numbers in all.
 fn coefficients(
     alloc: Global,
-    row: &Row,
+    poly: &Poly,
     columns: &[Mono],
     room: usize,
 ) -> Result<Items<i128>, AllocError>
-    ensures { IfOk result (λ line. line ≡ coefficients row.now columns.now) }
+    ensures { IfOk result
+        (λ line. line ≡ coefficients (record { poly = poly.now; kind = AtMost }) columns.now) }
 {
     let mut line = Items::from_vec(Vec::with_capacity(alloc, room)?);
     for column in columns {
-        line.push(row.poly.coefficient(column))?;
+        line.push(poly.coefficient(column))?;
     }
     Ok(line)
 }
@@ -89,11 +93,14 @@ pub(crate) fn with_units(
 ) -> Result<Items<i128>, AllocError>
     ensures { IfOk result (λ made. made ≡ line ++ units_to count place) }
 {
-    let mut made = line;
-    for i in 0..count {
-        made.push(if i == place { 1 } else { 0 })?;
+    let first = line.len();
+    let all = first.checked_add(count).ok_or(AllocError)?;
+    let mut made = line.into_vec();
+    made.resize(all, 0)?;
+    if place < count {
+        made[first + place] = 1;
     }
-    Ok(made)
+    Ok(Items::from_vec(made))
 }
 
 /// The unit columns.

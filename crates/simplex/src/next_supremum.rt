@@ -1,28 +1,26 @@
-ghost use Rattle.std.specs.Prelude.{◌≡◌, ℕ, ◌+◌, ◌<◌, ◌++◌, ◌∷◌, [], Some, length, IsTrue, IfOk, IfErr, IfSome};
+ghost use Rattle.std.specs.Prelude.{◌≡◌, ℕ, ◌+◌, [], Some, length, IsTrue, MatchOption, IfOk, IfErr, IfSome};
 ghost use Rattle.std.specs.Map.{keys_of};
-ghost use Rattle.linear_terms.specs.declared.row.Kind.TheVariants.{AtMost};
+ghost use Rattle.linear_terms.specs.Polynomial.{IsCanonical};
 ghost use Rattle.farkas_check.specs.Columns.{columns as columns_of};
 ghost use Rattle.farkas_check.proofs.Spreads.{AreAmong};
 ghost use Rattle.simplex.specs.Wider.{AreColumnsOf, IsBesides};
 ghost use Rattle.simplex.specs.Endings.{IsMetFor, StandsAt, FoundFor};
 ghost use Rattle.simplex.specs.Raise.{Framed};
 ghost use Rattle.simplex.specs.Refusal.{IsRefusalIn};
-ghost use Rattle.simplex.specs.Rows.{kinds_of};
-ghost use Rattle.simplex.specs.Search.{IsMet};
-ghost use Rattle.simplex.specs.Suprema.{frame_over, own_frame, IsSupremumOver, IsSupremumOf, SupremumAt};
+ghost use Rattle.simplex.specs.Suprema.{FramedKinds, case_over, with_goal, frame_over, own_frame, IsSupremumOver, IsSupremumOf};
 
 use crate::corner::corner;
 use crate::endings::Ending;
 use crate::frame::{framed_tableau, kinds_of};
 use crate::gauss::Stage;
 use crate::search::{SearchEnd, corner_search};
-use crate::supremum::{bound_of, point_and_ray, top_of, with_goal};
+use crate::supremum::{topped_stage, with_goal};
 use crate::swap::stage_for_goal;
 use crate::widening::{columns_with, first_besides, unit_ray, widened_numbers, widened_supremum};
-use crate::{SearchStop, Supremum, Top};
+use crate::{SearchStop, Supremum};
 use farkas_check::{Goal, case_columns};
 use items::Items;
-use linear_terms::{Kind, Mono, Poly, Row};
+use linear_terms::{Mono, Poly, Row};
 use std::alloc::{AllocError, Global};
 
 /// Rows and an objective over columns, among which are theirs.
@@ -31,6 +29,16 @@ pub(crate) struct GoalOver<'a> {
     pub(crate) columns: &'a [Mono],
     pub(crate) rows: &'a [Row],
     pub(crate) objective: &'a Poly,
+}
+
+/// A corner of rows, over their own columns, with an objective as its goal.
+#[derive(Drop)]
+pub(crate) struct Corner {
+    columns: Items<Mono>,
+    rows: Items<Row>,
+    stage: Stage,
+    /// Whether each of the objective's monomials is known to be one of the columns.
+    among: bool,
 }
 
 /// What a case of a supremum question comes to, with no more turns a raise than the budget, and
@@ -49,15 +57,7 @@ pub(crate) fn next_supremum(
     let rows = goal.rows.as_slice();
     let objective = &goal.objective;
     match corner_for(alloc, last, rows, objective)? {
-        Some((own, copies, stage)) => {
-            let columns = columns_with(alloc, own.as_slice(), rows, objective.terms())?;
-            let goal = GoalOver {
-                columns: columns.as_slice(),
-                rows,
-                objective,
-            };
-            supremum_at(alloc, goal, own, copies, stage, budget)
-        }
+        Some(corner) => supremum_with(alloc, rows, objective, corner, budget),
         None => {
             let own = case_columns(alloc, rows, &[])?;
             let columns = columns_with(alloc, own.as_slice(), rows, objective.terms())?;
@@ -69,6 +69,63 @@ pub(crate) fn next_supremum(
             supremum_anew(alloc, goal, own, budget)
         }
     }
+}
+
+/// The supremum from a corner of the rows on. Where the objective has no monomial but those of the
+/// rows, the columns are the rows' own.
+fn supremum_with(
+    alloc: Global,
+    rows: &[Row],
+    objective: &Poly,
+    corner: Corner,
+    budget: u128,
+) -> Result<(Supremum, Option<Ending>), SearchStop>
+    requires own { corner.columns ≡ columns_of rows.now [] }
+    requires rows { corner.rows ≡ rows.now }
+    requires met { IsMetFor corner.columns rows.now objective.now corner.stage.enters
+        corner.stage.tableau }
+    requires among { IsTrue corner.among → AreAmong (keys_of objective.now.terms) corner.columns }
+    ensures supremum { IfOk result
+        (λ r. IsSupremumOver (columns_of rows.now objective.now.terms) rows.now objective.now budget
+        r.0) }
+    ensures refusal { IfErr result
+        (IsRefusalIn (own_frame rows.now objective.now) (length rows.now + 1)) }
+{
+    let Corner {
+        columns: own,
+        rows: copies,
+        stage,
+        among,
+    } = corner;
+    match first_unless(among, own.as_slice(), objective.terms()) {
+        Some((mono, up)) => {
+            let columns = columns_with(alloc, own.as_slice(), rows, objective.terms())?;
+            let goal = GoalOver {
+                columns: columns.as_slice(),
+                rows,
+                objective,
+            };
+            let found = ray_supremum(alloc, goal, &own, &stage, &mono, up)?;
+            Ok((found, ending_of(own, copies, Some(stage))))
+        }
+        None => {
+            let (found, left) = supremum_from_corner(alloc, &own, stage, rows, objective, budget)?;
+            Ok((found, ending_of(own, copies, left)))
+        }
+    }
+}
+
+/// The first monomial of the terms that is none of the columns, unless all are known to be.
+fn first_unless(among: bool, own: &[Mono], terms: &[(Mono, i128)]) -> Option<(Mono, bool)>
+    requires canonical { IsCanonical terms.now }
+    requires among { IsTrue among → AreAmong (keys_of terms.now) own.now }
+    ensures { MatchOption result (AreAmong (keys_of terms.now) own.now)
+        (λ r. IsBesides own.now terms.now r.0 r.1) }
+{
+    if among {
+        return None;
+    }
+    first_besides(own, terms)
 }
 
 /// The same of a goal over columns. The search is over the rows' own columns, and what it comes to
@@ -88,7 +145,14 @@ pub(crate) fn supremum_from(
         (length goal.entry.rows.now + 1)) }
 {
     match corner_for(alloc, last, goal.rows, goal.objective)? {
-        Some((own, copies, stage)) => supremum_at(alloc, goal, own, copies, stage, budget),
+        Some(
+            Corner {
+                columns,
+                rows,
+                stage,
+                among: _among,
+            },
+        ) => supremum_at(alloc, goal, columns, rows, stage, budget),
         None => {
             let own = case_columns(alloc, goal.rows, &[])?;
             supremum_anew(alloc, goal, own, budget)
@@ -96,19 +160,22 @@ pub(crate) fn supremum_from(
     }
 }
 
-/// The rows' own columns, the rows and the corner where the last supremum ended, with the objective
-/// as its goal, if it was over the same rows and no step leaves 128 bits.
+/// The corner where the last supremum ended, with the objective as its goal, if it was over the same
+/// rows and no step leaves 128 bits.
 fn corner_for(
     alloc: Global,
     last: Option<Ending>,
     rows: &[Row],
     objective: &Poly,
-) -> Result<Option<(Items<Mono>, Items<Row>, Stage)>, AllocError>
-    ensures own { IfOk result (λ found. IfSome found (λ r. r.0 ≡ columns_of rows.now [])) }
-    ensures rows { IfOk result (λ found. IfSome found (λ r. r.1 ≡ rows.now)) }
+) -> Result<Option<Corner>, AllocError>
+    ensures own { IfOk result (λ found. IfSome found (λ c. c.columns ≡ columns_of rows.now [])) }
+    ensures rows { IfOk result (λ found. IfSome found (λ c. c.rows ≡ rows.now)) }
     ensures met { IfOk result
         (λ found. IfSome found
-        (λ r. IsMetFor r.0 rows.now objective.now r.2.enters r.2.tableau)) }
+        (λ c. IsMetFor c.columns rows.now objective.now c.stage.enters c.stage.tableau)) }
+    ensures among { IfOk result
+        (λ found. IfSome found
+        (λ c. IsTrue c.among → AreAmong (keys_of objective.now.terms) c.columns)) }
 {
     match last {
         None => Ok(None),
@@ -121,23 +188,37 @@ fn corner_over(
     ending: Ending,
     rows: &[Row],
     objective: &Poly,
-) -> Result<Option<(Items<Mono>, Items<Row>, Stage)>, AllocError>
-    ensures own { IfOk result (λ found. IfSome found (λ r. r.0 ≡ columns_of rows.now [])) }
-    ensures rows { IfOk result (λ found. IfSome found (λ r. r.1 ≡ rows.now)) }
+) -> Result<Option<Corner>, AllocError>
+    ensures own { IfOk result (λ found. IfSome found (λ c. c.columns ≡ columns_of rows.now [])) }
+    ensures rows { IfOk result (λ found. IfSome found (λ c. c.rows ≡ rows.now)) }
     ensures met { IfOk result
         (λ found. IfSome found
-        (λ r. IsMetFor r.0 rows.now objective.now r.2.enters r.2.tableau)) }
+        (λ c. IsMetFor c.columns rows.now objective.now c.stage.enters c.stage.tableau)) }
+    ensures among { IfOk result
+        (λ found. IfSome found
+        (λ c. IsTrue c.among → AreAmong (keys_of objective.now.terms) c.columns)) }
 {
     let Ending {
-        columns: own,
+        columns,
         rows: copies,
         stage,
     } = ending;
     if !are_rows(copies.as_slice(), rows) {
         return Ok(None);
     }
-    match stage_for_goal(alloc, own.as_slice(), copies.as_slice(), stage, objective)? {
-        Some(next) => Ok(Some((own, copies, next))),
+    match stage_for_goal(
+        alloc,
+        columns.as_slice(),
+        copies.as_slice(),
+        stage,
+        objective,
+    )? {
+        Some((stage, among)) => Ok(Some(Corner {
+            columns,
+            rows: copies,
+            stage,
+            among,
+        })),
         None => Ok(None),
     }
 }
@@ -311,8 +392,8 @@ fn supremum_from_corner(
     objective: &Poly,
     budget: u128,
 ) -> Result<(Supremum, Option<Stage>), SearchStop>
-    ghost over: { Framed }
-    requires frame { over ≡ frame_over columns.now rows.now objective.now }
+    ghost case: { FramedKinds }
+    requires case { case ≡ case_over columns.now rows.now objective.now }
     requires met { IsMetFor columns.now rows.now objective.now stage.enters stage.tableau }
     ensures supremum { IfOk result
         (λ r. IsSupremumOver columns.now rows.now objective.now budget r.0) }
@@ -322,24 +403,7 @@ fn supremum_from_corner(
         (IsRefusalIn (frame_over columns.now rows.now objective.now) (length rows.now + 1)) }
 {
     let _objective = objective;
-    let kinds = kinds_with_goal(alloc, rows)?;
-    topped_stage(
-        alloc,
-        stage,
-        columns.len(),
-        kinds.as_slice(),
-        rows.len(),
-        budget,
-    )
-}
-
-/// The kinds of the rows, and of an objective behind them.
-fn kinds_with_goal(alloc: Global, rows: &[Row]) -> Result<Items<Kind>, AllocError>
-    ensures { IfOk result (λ kinds. kinds ≡ kinds_of rows.now ++ AtMost ∷ []) }
-{
-    let mut kinds = kinds_of(alloc, rows)?;
-    kinds.push(Kind::AtMost)?;
-    Ok(kinds)
+    topped_stage(alloc, stage, columns.len(), rows.len(), budget)
 }
 
 fn ending_of(columns: Items<Mono>, rows: Items<Row>, left: Option<Stage>) -> Option<Ending>
@@ -353,45 +417,5 @@ fn ending_of(columns: Items<Mono>, rows: Items<Row>, left: Option<Stage>) -> Opt
             stage,
         }),
         None => None,
-    }
-}
-
-/// Raises the objective from a corner of the rows, reads off what shows how great it gets, and
-/// keeps the corner that it came to.
-fn topped_stage(
-    alloc: Global,
-    stage: Stage,
-    constants: usize,
-    kinds: &[Kind],
-    goal: usize,
-    budget: u128,
-) -> Result<(Supremum, Option<Stage>), SearchStop>
-    ghost over: { Framed }
-    requires met { IsMet over constants kinds.now stage.enters stage.tableau }
-    requires goal { goal ≡ over.rows }
-    requires here { goal < length stage.tableau.lines }
-    ensures supremum { IfOk result (λ r. SupremumAt over constants kinds.now budget r.0) }
-    ensures left { IfOk result
-        (λ r. IfSome r.1 (λ s. IsMet over constants kinds.now s.enters s.tableau)) }
-    ensures refusal { IfErr result (IsRefusalIn over (length kinds.now)) }
-{
-    let enters = Items::from_slice(alloc, stage.enters.as_slice())?;
-    let (tableau, top) = top_of(alloc, stage, constants, kinds, goal, budget)?;
-    match top {
-        Top::Pivots => Ok((Supremum::Pivots, None)),
-        Top::Best => {
-            let (cert, point) = bound_of(alloc, &tableau, constants, goal)?;
-            Ok((
-                Supremum::Bound(cert, point),
-                Some(Stage { tableau, enters }),
-            ))
-        }
-        Top::Open { column, up } => {
-            let (point, ray) = point_and_ray(alloc, &tableau, constants, column, up)?;
-            Ok((
-                Supremum::Unbounded(point, ray),
-                Some(Stage { tableau, enters }),
-            ))
-        }
     }
 }

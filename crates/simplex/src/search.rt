@@ -43,7 +43,8 @@ pub(crate) fn keys_of(
     requires { AllByRecursion (λ c. c < length enters.now) chosen.now }
     ensures { IfOk result (λ keys. keys ≡ constants ∷ filter (enters_at enters.now) chosen.now) }
 {
-    let mut keys = Items::new(alloc);
+    let room = chosen.len().saturating_add(1);
+    let mut keys = Items::from_vec(Vec::with_capacity(alloc, room)?);
     keys.push(constants)?;
     for column in chosen {
         if enters[*column] {

@@ -1,17 +1,16 @@
-ghost use Rattle.std.specs.Prelude.{◌≡◌, ◌+◌, ◌^◌, ◌<◌, ℕ, List, [], Ok, length, get_or, IfOk, IfErr};
+ghost use Rattle.std.specs.Prelude.{◌≡◌, ◌+◌, ◌^◌, ◌<◌, ℕ, List, [], Ok, length, get_or, IfOk, IfErr, IfSome};
 ghost use Rattle.items.specs.Gives.{Gives};
 ghost use Rattle.simplex.specs.Calm.{HasSquares, IsSmallLine, IsMemory};
 ghost use Rattle.simplex.specs.Exchange.{cause, IsTableauOf, ArePrimitive};
-ghost use Rattle.linear_terms.specs.declared.row.Kind.{Kind};
 ghost use Rattle.simplex.specs.Raise.{Framed};
 ghost use Rattle.simplex.specs.Refusal.{IsRefusal, IsRefusalIn};
 ghost use Rattle.simplex.specs.Search.{IsFlat, IsMet, IsSolving, IsCornerOf};
-ghost use Rattle.simplex.specs.Suprema.{with_goal, frame_over, goal_frame, IsSupremumOver, IsSupremumOf, TopAt, SupremumAt, certificate_of, IsRayOf};
+ghost use Rattle.simplex.specs.Suprema.{FramedKinds, with_goal, frame_over, goal_frame, IsSupremumOver, IsSupremumOf, TopAt, SupremumAt, certificate_of, IsRayOf};
 
 use crate::corner::{corner, ray};
 use crate::frame::{framed_tableau, kinds_of};
 use crate::gauss::{Stage, question_column};
-use crate::raise::{Raise, raised_goal};
+use crate::raise::{Raise, entering, raised_goal};
 use crate::search::{SearchEnd, corner_search, keys_of};
 use crate::tableau::line_multiple;
 use crate::{RaiseEnd, SearchStop, Tableau};
@@ -112,48 +111,55 @@ fn raised_supremum(
     count: usize,
     budget: u128,
 ) -> Result<Supremum, SearchStop>
-    ghost over: { Framed }
-    requires solving { IsSolving over constants kinds.now 0 t }
-    requires count { count ≡ over.rows }
-    requires within { count < length kinds.now }
-    requires wide { constants + 1 + length kinds.now < 2 ^ 64 }
-    ensures supremum { IfOk result (λ found. SupremumAt over constants kinds.now budget found) }
-    ensures refusal { IfErr result (IsRefusalIn over (length kinds.now)) }
+    ghost case: { FramedKinds }
+    requires kinds { kinds.now ≡ case.kinds }
+    requires solving { IsSolving case.over constants case.kinds 0 t }
+    requires count { count ≡ case.over.rows }
+    requires within { count < length case.kinds }
+    requires wide { constants + 1 + length case.kinds < 2 ^ 64 }
+    ensures supremum { IfOk result
+        (λ found. SupremumAt case.over constants case.kinds budget found) }
+    ensures refusal { IfErr result (IsRefusalIn case.over (length case.kinds)) }
 {
     let (stage, found) = corner_search(alloc, t, constants, kinds, count, budget)?;
     match found {
         SearchEnd::Refuted(_line) => Ok(Supremum::Empty),
         SearchEnd::Pivots => Ok(Supremum::Pivots),
-        SearchEnd::Corner => topped_case(alloc, stage, constants, kinds, count, budget),
+        SearchEnd::Corner => {
+            let (found, _left) = topped_stage(alloc, stage, constants, count, budget)?;
+            Ok(found)
+        }
     }
 }
 
-/// Raises the objective from a corner of the rows, and reads off what shows how great it gets.
-fn topped_case(
+/// Raises the objective from a corner of the rows, reads off what shows how great it gets, and
+/// keeps the corner that it came to, if it came to one.
+pub(crate) fn topped_stage(
     alloc: Global,
     stage: Stage,
     constants: usize,
-    kinds: &[Kind],
     goal: usize,
     budget: u128,
-) -> Result<Supremum, SearchStop>
-    ghost over: { Framed }
-    requires met { IsMet over constants kinds.now stage.enters stage.tableau }
-    requires goal { goal ≡ over.rows }
+) -> Result<(Supremum, Option<Stage>), SearchStop>
+    ghost case: { FramedKinds }
+    requires met { IsMet case.over constants case.kinds stage.enters stage.tableau }
+    requires goal { goal ≡ case.over.rows }
     requires here { goal < length stage.tableau.lines }
-    ensures supremum { IfOk result (λ found. SupremumAt over constants kinds.now budget found) }
-    ensures refusal { IfErr result (IsRefusalIn over (length kinds.now)) }
+    ensures supremum { IfOk result (λ r. SupremumAt case.over constants case.kinds budget r.0) }
+    ensures left { IfOk result
+        (λ r. IfSome r.1 (λ s. IsMet case.over constants case.kinds s.enters s.tableau)) }
+    ensures refusal { IfErr result (IsRefusalIn case.over (length case.kinds)) }
 {
-    let (t, top) = top_of(alloc, stage, constants, kinds, goal, budget)?;
+    let (stage, top) = top_of(alloc, stage, constants, goal, budget)?;
     match top {
-        Top::Pivots => Ok(Supremum::Pivots),
+        Top::Pivots => Ok((Supremum::Pivots, None)),
         Top::Best => {
-            let (cert, point) = bound_of(alloc, &t, constants, goal)?;
-            Ok(Supremum::Bound(cert, point))
+            let (cert, point) = bound_of(alloc, &stage.tableau, constants, goal)?;
+            Ok((Supremum::Bound(cert, point), Some(stage)))
         }
         Top::Open { column, up } => {
-            let (point, ray) = point_and_ray(alloc, &t, constants, column, up)?;
-            Ok(Supremum::Unbounded(point, ray))
+            let (point, ray) = point_and_ray(alloc, &stage.tableau, constants, column, up)?;
+            Ok((Supremum::Unbounded(point, ray), Some(stage)))
         }
     }
 }
@@ -235,48 +241,73 @@ fn read_certificate(
     })
 }
 
-/// Raises the objective, whose slack is minus it, from a corner of the rows.
+/// Raises the objective, whose slack is minus it, from a corner of the rows. Which columns may
+/// enter stays as it is.
 pub(crate) fn top_of(
     alloc: Global,
     stage: Stage,
     constants: usize,
-    kinds: &[Kind],
     goal: usize,
     budget: u128,
-) -> Result<(Tableau, Top), SearchStop>
-    ghost over: { Framed }
-    requires met { IsMet over constants kinds.now stage.enters stage.tableau }
-    requires goal { goal ≡ over.rows }
+) -> Result<(Stage, Top), SearchStop>
+    ghost case: { FramedKinds }
+    requires met { IsMet case.over constants case.kinds stage.enters stage.tableau }
+    requires goal { goal ≡ case.over.rows }
     requires here { goal < length stage.tableau.lines }
-    ensures top { IfOk result (λ r. TopAt over constants kinds.now budget stage.enters r.0 r.1) }
-    ensures refusal { IfErr result (IsRefusalIn over (length kinds.now)) }
+    ensures top { IfOk result
+        (λ r. TopAt case.over constants case.kinds budget r.0.enters r.0.tableau r.1) }
+    ensures refusal { IfErr result (IsRefusalIn case.over (length case.kinds)) }
 {
     match question_column(stage.tableau.lines[goal].as_slice(), constants) {
         Some(column) => {
             let up = 0 < stage.tableau.lines[goal][column];
-            Ok((stage.tableau, Top::Open { column, up }))
+            Ok((stage, Top::Open { column, up }))
         }
-        None => lowered_goal(alloc, stage, constants, kinds, goal, budget),
+        None => lowered_goal(alloc, stage, constants, goal, budget),
     }
 }
 
+/// The same where the objective's line is 0 at the columns of the question. Mostly no column lets
+/// the objective grow.
 fn lowered_goal(
     alloc: Global,
     stage: Stage,
     constants: usize,
-    kinds: &[Kind],
     goal: usize,
     budget: u128,
-) -> Result<(Tableau, Top), SearchStop>
-    ghost over: { Framed }
-    requires met { IsMet over constants kinds.now stage.enters stage.tableau }
-    requires goal { goal ≡ over.rows }
+) -> Result<(Stage, Top), SearchStop>
+    ghost case: { FramedKinds }
+    requires met { IsMet case.over constants case.kinds stage.enters stage.tableau }
+    requires goal { goal ≡ case.over.rows }
     requires here { goal < length stage.tableau.lines }
     requires flat { IsFlat constants stage.tableau goal }
-    ensures top { IfOk result (λ r. TopAt over constants kinds.now budget stage.enters r.0 r.1) }
-    ensures refusal { IfErr result (IsRefusalIn over (length kinds.now)) }
+    ensures top { IfOk result
+        (λ r. TopAt case.over constants case.kinds budget r.0.enters r.0.tableau r.1) }
+    ensures refusal { IfErr result (IsRefusalIn case.over (length case.kinds)) }
 {
-    let _kinds = kinds;
+    let line = stage.tableau.lines[goal].as_slice();
+    match entering(line, false, stage.enters.as_slice()) {
+        None => Ok((stage, Top::Best)),
+        Some(_column) => raised_objective(alloc, stage, constants, goal, budget),
+    }
+}
+
+fn raised_objective(
+    alloc: Global,
+    stage: Stage,
+    constants: usize,
+    goal: usize,
+    budget: u128,
+) -> Result<(Stage, Top), SearchStop>
+    ghost case: { FramedKinds }
+    requires met { IsMet case.over constants case.kinds stage.enters stage.tableau }
+    requires goal { goal ≡ case.over.rows }
+    requires here { goal < length stage.tableau.lines }
+    requires flat { IsFlat constants stage.tableau goal }
+    ensures top { IfOk result
+        (λ r. TopAt case.over constants case.kinds budget r.0.enters r.0.tableau r.1) }
+    ensures refusal { IfErr result (IsRefusalIn case.over (length case.kinds)) }
+{
     let Stage { tableau, enters } = stage;
     let keys = keys_of(
         alloc,
@@ -293,10 +324,11 @@ fn lowered_goal(
         keys: keys.as_slice(),
     };
     let (t, came) = raised_goal(alloc, tableau, raise, budget)?;
+    let stage = Stage { tableau: t, enters };
     match came {
-        RaiseEnd::Met => Ok((t, Top::Best)),
-        RaiseEnd::Best => Ok((t, Top::Best)),
-        RaiseEnd::Open(column) => Ok((t, Top::Open { column, up: true })),
-        RaiseEnd::Pivots => Ok((t, Top::Pivots)),
+        RaiseEnd::Met => Ok((stage, Top::Best)),
+        RaiseEnd::Best => Ok((stage, Top::Best)),
+        RaiseEnd::Open(column) => Ok((stage, Top::Open { column, up: true })),
+        RaiseEnd::Pivots => Ok((stage, Top::Pivots)),
     }
 }

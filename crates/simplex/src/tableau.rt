@@ -1,6 +1,7 @@
 ghost use Rattle.std.specs.Prelude.{◌≡◌, ◌+◌, ◌<◌, ℕ, ℤ, [], if◌then◌else◌, pos, int_div, unsigned_abs, length, map, get_or, IfOk, IfErr};
 ghost use Rattle.items.specs.Gives.{Gives};
 ghost use Rattle.whole_numbers.specs.Divisors.{gcd_of, gcd_of_all};
+ghost use Rattle.whole_numbers.specs.Fits.{product_of};
 ghost use Rattle.simplex.specs.Calm.{HasSquares, HasSmallLines, IsMemory};
 ghost use Rattle.simplex.specs.Refusal.{LeavesBits, IsRefusal};
 ghost use Rattle.simplex.specs.Exchange.{cause, sum_of_lines, sum_of_products, line_multiple, reduced_line, upright_line, line_without, line_without_at, lines_without, exchange, numbers_of, HasShape, KeepsFrames};
@@ -126,9 +127,21 @@ pub(crate) fn line_multiple(
 {
     let mut made = Vec::from_slice(alloc, line)?;
     for i in 0..made.len() {
-        made[i] = step_product(&line[i], by)?;
+        made[i] = multiple(&line[i], by)?;
     }
     Ok(Items::from_vec(made))
+}
+
+/// A number's multiple. That of 0 is not made.
+#[tactic(auto, using(crate::proofs::Lines::nothing_made))]
+fn multiple(number: &i128, by: &i128) -> Result<i128, Wide>
+    ensures exact { result ≡ product_of number.now by.now }
+    ensures width { IfErr result LeavesBits }
+{
+    if *number == 0 {
+        return Ok(0);
+    }
+    step_product(number, by)
 }
 
 /// A line cleared at the column by one that is positive there.

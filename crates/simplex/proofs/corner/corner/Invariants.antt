@@ -1,8 +1,8 @@
-use Rattle.simplex.specs.Search.{IsCornerOf}
+use Rattle.simplex.proofs.CornersByLines.{IsCornerTo}
 use Rattle.simplex.proofs.corner.corner.Given as goal
 
-abbrev pub ghost-number_of : goal.ghost-number_of
-ghost-number_of g a = g.over
+abbrev pub ghost-number_in : goal.ghost-number_in
+ghost-number_in g a = g.over
 
-abbrev pub invariant-loop-column : goal.invariant-loop-column
-invariant-loop-column g l = IsCornerOf l.t l.constants l.column l.point
+abbrev pub invariant-loop-line : goal.invariant-loop-line
+invariant-loop-line g l = IsCornerTo l.t l.constants l.line l.point.items

@@ -11,8 +11,11 @@ raised_supremum-requires c =
     let t : c.in_ok-t.t ≡ framed_tableau c.args.columns.now c.in_ok-all.all = search rules in
     let kinds : c.as_slice-3.result.now ≡ kinds_of c.in_ok-all.all = search rules in
     let many : length c.as_slice-3.result.now ≡ length c.args.rows.now + 1 = ap length (kinds ∙ ap kinds_of all) ∙ kinds-length (with_goal c.args.rows.now c.args.objective.now) ∙ more_rows c.args.rows.now c.args.objective.now in (
-      solving_goal_at c.args.columns.now c.args.rows.now c.in_ok-all.all c.args.objective.now (length c.args.columns.now) (length c.args.rows.now) c.as_slice-3.result.now c.in_ok-t.t all refl refl t kinds,
-      (refl, (omega (arith, many), search rules)),
+      refl,
+      (
+        solving_goal_at c.args.columns.now c.args.rows.now c.in_ok-all.all c.args.objective.now (length c.args.columns.now) (length c.args.rows.now) c.as_slice-3.result.now c.in_ok-t.t all refl refl t kinds,
+        (refl, (omega (arith, many), search rules)),
+      ),
     )
 
 pub returns-clause-supremum : goal.returns-clause-supremum

@@ -20,8 +20,8 @@ cleared_line-requires-clause-wide c k h =
     ∙ pivots_wide c.args.columns.now c.args.rows.now c.requires.stands.objective c.args.objective.now c.args.stage.enters c.args.stage.tableau c.requires.stands.met c.front_of-lines.result c.front_of-lines.ensures k (subst (λ (ls : List (List ℤ)). k < length ls) lines h)
     ∙ ap length (sym own)
 
-pub returns-in-Ok : goal.returns-in-Ok
-returns-in-Ok c =
+pub returns-in-Ok-clause-met : goal.returns-in-Ok-clause-met
+returns-in-Ok-clause-met c =
     let lines : c.as_slice.result.now ≡ c.front_of-lines.result = search rules in
     let chosen : c.as_slice-2.result.now ≡ c.args.stage.tableau.chosen = search rules in
     let own : c.in_ok-own.own ≡ goal_line c.args.columns.now c.args.rows.now c.args.objective.now = search rules in
@@ -31,7 +31,5 @@ returns-in-Ok c =
     ap (λ ls. cleared_line ls c.args.stage.tableau.chosen 0 (goal_line c.args.columns.now c.args.rows.now c.args.objective.now)) (sym lines)
     ∙ ap (λ cs. cleared_line c.as_slice.result.now cs 0 (goal_line c.args.columns.now c.args.rows.now c.args.objective.now)) (sym chosen)
     ∙ ap (λ zs. cleared_line c.as_slice.result.now c.as_slice-2.result.now 0 zs) (sym own) in
-    record {
-      met = subst (λ (ls : List (List ℤ)). IsMetFor c.args.columns.now c.args.rows.now c.args.objective.now c.args.stage.enters (record { lines = ls; chosen = c.args.stage.tableau.chosen })) (sym pushed)
-          (met_turned c.args.columns.now c.args.rows.now c.requires.stands.objective c.args.objective.now c.args.stage.enters c.args.stage.tableau c.front_of-lines.result c.in-Ok.line c.requires.stands.met c.front_of-lines.ensures (same ∙ exact));
-    }
+    subst (λ (ls : List (List ℤ)). IsMetFor c.args.columns.now c.args.rows.now c.args.objective.now c.args.stage.enters (record { lines = ls; chosen = c.args.stage.tableau.chosen })) (sym pushed)
+    (met_turned c.args.columns.now c.args.rows.now c.requires.stands.objective c.args.objective.now c.args.stage.enters c.args.stage.tableau c.front_of-lines.result c.in-Ok.line c.requires.stands.met c.front_of-lines.ensures (same ∙ exact))
