@@ -1,9 +1,9 @@
 ghost use Rattle.std.specs.Prelude.{◌≡◌, ◌≤◌, length, IfOk};
 ghost use Rattle.checked_tree.specs.Growing.{log_gain};
 
-use farkas_check::Answer;
 use items::Items;
 use polyhedra::{Log, Note};
+use posing::SharedAnswer;
 use std::alloc::{AllocError, Global};
 
 /// How many notes and answers a log had.
@@ -46,7 +46,7 @@ fn notes_copy(alloc: Global, notes: &[Note]) -> Result<Items<Note>, AllocError>
     Ok(copy)
 }
 
-fn answers_copy(alloc: Global, answers: &[Answer]) -> Result<Items<Answer>, AllocError>
+fn answers_copy(alloc: Global, answers: &[SharedAnswer]) -> Result<Items<SharedAnswer>, AllocError>
     ensures { IfOk result (λ copy. copy ≡ answers.now) }
 {
     let mut copy = Items::new(alloc);

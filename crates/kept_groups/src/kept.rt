@@ -1,7 +1,6 @@
 use analysis::{GroupSummaries, Planned};
-use farkas_check::Answer;
 use items::Items;
-use posing::Note;
+use posing::{Note, SharedAnswer};
 use syntax_tree::Program;
 
 /// What is kept of a group: a summary and a flow for each of its procedures, in their order, the
@@ -11,7 +10,7 @@ use syntax_tree::Program;
 pub struct KeptPart {
     pub summaries: GroupSummaries,
     pub notes: Items<Note>,
-    pub answers: Items<Answer>,
+    pub answers: Items<SharedAnswer>,
 }
 
 /// What is kept of a program: its plan, and a part for each group of the plan.

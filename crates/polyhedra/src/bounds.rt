@@ -73,7 +73,7 @@ fn ask_bound<O: Oracle>(
         Asks O.asking oracle log result (bound_by (Ok goals)) }
 {
     let answer = noted_answer(alloc, question, oracle, log)?;
-    Ok(bound_in(&answer))
+    Ok(bound_in(answer.get()))
 }
 
 fn bound_in(answer: &Answer) -> Option<i128>

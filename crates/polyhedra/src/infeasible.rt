@@ -6,7 +6,7 @@ ghost use Rattle.polyhedra.specs.Infeasibility.{assent, is_yes, limits_of, noted
 use crate::{Log, Note, WorkError};
 use farkas_check::{Answer, Oracle, Question};
 use items::Items;
-use posing::ask;
+use posing::{SharedAnswer, ask, ask_shared};
 use std::alloc::{AllocError, Global};
 
 /// Whether the answer to a question is yes. A limit is noted.
@@ -20,25 +20,25 @@ pub(crate) fn assent<O: Oracle>(
     ensures { Asks O.asking oracle log result (assent question.now) }
 {
     let answer = noted_answer(alloc, question, oracle, log)?;
-    Ok(is_yes(&answer))
+    Ok(is_yes(answer.get()))
 }
 
-/// The answer to a question. A limit is noted.
+/// The answer to a question, which the log has too. A limit is noted.
 #[tactic(auto, using(posing::proofs::Following::following), unfolding(crate::specs::Infeasibility::noted_answer))]
 pub(crate) fn noted_answer<O: Oracle>(
     alloc: Global,
     question: &Question,
     oracle: &mut O,
     log: &mut Log,
-) -> Result<Answer, WorkError>
+) -> Result<SharedAnswer, WorkError>
     ensures { Asks O.asking oracle log result (noted_answer question.now) }
 {
-    let answer = ask(alloc, question, oracle, log)?;
-    note_limit(alloc, &answer, log)?;
+    let answer = ask_shared(alloc, question, oracle, log)?;
+    note_limit(alloc, answer.get(), log)?;
     Ok(answer)
 }
 
-/// The same of a question that is asked once.
+/// The same of a question that is asked once, and a copy of its answer.
 pub(crate) fn answer_once<O: Oracle>(
     alloc: Global,
     question: Question,
@@ -47,7 +47,9 @@ pub(crate) fn answer_once<O: Oracle>(
 ) -> Result<Answer, WorkError>
     ensures { Asks O.asking oracle log result (noted_answer question) }
 {
-    noted_answer(alloc, &question, oracle, log)
+    let answer = ask(alloc, &question, oracle, log)?;
+    note_limit(alloc, &answer, log)?;
+    Ok(answer)
 }
 
 fn note_limit(alloc: Global, answer: &Answer, log: &mut Log) -> Result<(), AllocError>

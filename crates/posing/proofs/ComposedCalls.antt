@@ -11,7 +11,7 @@ use Rattle.std.proofs.Common.{◌≡◌, List, [], ◌∷◌, ◌++◌, Option, 
 use Rattle.farkas_check.specs.declared.answer.Answer.{Answer}
 use Rattle.farkas_check.specs.declared.question.Question.{Question}
 use Rattle.farkas_check.specs.Asking.{Asking}
-use Rattle.farkas_check.specs.Tested.{Passes, passes}
+use Rattle.farkas_check.specs.Tested.{Passes}
 use Rattle.posing.specs.declared.error.WorkError.{WorkError}
 use Rattle.posing.specs.declared.error.WorkError.TheVariants.{Refused, Memory}
 use Rattle.posing.specs.declared.log.Log.{Log}

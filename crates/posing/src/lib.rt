@@ -7,8 +7,10 @@ mod asking;
 mod error;
 mod log;
 mod note;
+mod shared;
 
-pub use asking::ask;
+pub use asking::{ask, ask_shared};
 pub use error::WorkError;
 pub use log::Log;
 pub use note::{Note, Witness};
+pub use shared::SharedAnswer;

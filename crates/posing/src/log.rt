@@ -1,17 +1,16 @@
 ghost use Rattle.std.specs.Prelude.{◌≡◌, [], IfOk};
 ghost use Rattle.posing.specs.Logs.{Adds, loss_notes};
 
-use crate::Note;
-use farkas_check::Answer;
+use crate::{Note, SharedAnswer};
 use items::Items;
 use std::alloc::{AllocError, Global};
 use transition_formula::Loss;
 
 /// What calls noted, and the answers that they took, both in order.
-#[derive(Debug, PartialEq, Eq, Drop)]
+#[derive(Debug, Drop)]
 pub struct Log {
     pub notes: Items<Note>,
-    pub answers: Items<Answer>,
+    pub answers: Items<SharedAnswer>,
 }
 
 impl Log {

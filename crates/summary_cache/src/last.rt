@@ -1,10 +1,11 @@
-ghost use Rattle.std.specs.Prelude.{◌≡◌, IfOk};
+ghost use Rattle.std.specs.Prelude.{◌≡◌, ◌++◌, IfOk};
 ghost use Rattle.kept_groups.specs.Kept.{answers_in};
 ghost use Rattle.summary_cache.specs.Kept.{last_analysis, answers_for};
 
 use farkas_check::Answer;
 use items::Items;
 use kept_groups::{KeptGroups, KeptPart};
+use posing::SharedAnswer;
 use report::Report;
 use std::alloc::{AllocError, Global};
 
@@ -14,7 +15,7 @@ use std::alloc::{AllocError, Global};
 pub struct Last {
     pub groups: KeptGroups,
     pub report: Report,
-    pub rest: Items<Answer>,
+    pub rest: Items<SharedAnswer>,
 }
 
 /// The report of a text, and all its answers in the order of their questions.
@@ -29,9 +30,8 @@ impl Last {
     pub(crate) fn answers(&self, alloc: Global) -> Result<Items<Answer>, AllocError>
         ensures { IfOk result (λ answers. answers ≡ answers_for self.now) }
     {
-        let mut answers = copied_answers(alloc, self.groups.parts.as_slice())?;
-        answers.append(self.rest.clone()?)?;
-        Ok(answers)
+        let answers = copied_answers(alloc, self.groups.parts.as_slice())?;
+        with_copies(answers, &self.rest)
     }
 
     /// Its report and all its answers.
@@ -44,8 +44,8 @@ impl Last {
             rest,
         } = self;
         let KeptGroups { parts, .. } = groups;
-        let mut answers = joined_answers(alloc, parts)?;
-        answers.append(rest)?;
+        let answers = joined_answers(alloc, parts)?;
+        let answers = with_own(answers, rest)?;
         Ok(Analysed { report, answers })
     }
 }
@@ -56,9 +56,20 @@ fn copied_answers(alloc: Global, parts: &[KeptPart]) -> Result<Items<Answer>, Al
 {
     let mut answers = Items::new(alloc);
     for part in parts {
-        answers.append(part.answers.clone()?)?;
+        answers = with_copies(answers, &part.answers)?;
     }
     Ok(answers)
+}
+
+/// Copies of answers behind others.
+fn with_copies(answers: Items<Answer>, more: &[SharedAnswer]) -> Result<Items<Answer>, AllocError>
+    ensures { IfOk result (λ made. made ≡ answers ++ more.now) }
+{
+    let mut made = answers;
+    for answer in more {
+        made.push(answer.get().clone()?)?;
+    }
+    Ok(made)
 }
 
 /// The answers of parts, which are given up.
@@ -68,7 +79,18 @@ fn joined_answers(alloc: Global, parts: Items<KeptPart>) -> Result<Items<Answer>
     let mut answers = Items::new(alloc);
     for part in parts {
         let KeptPart { answers: own, .. } = part;
-        answers.append(own)?;
+        answers = with_own(answers, own)?;
     }
     Ok(answers)
+}
+
+/// Answers that are given up behind others.
+fn with_own(answers: Items<Answer>, more: Items<SharedAnswer>) -> Result<Items<Answer>, AllocError>
+    ensures { IfOk result (λ made. made ≡ answers ++ more) }
+{
+    let mut made = answers;
+    for answer in more {
+        made.push(answer.into_answer()?)?;
+    }
+    Ok(made)
 }

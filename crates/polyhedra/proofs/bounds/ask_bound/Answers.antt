@@ -1,4 +1,4 @@
-use Rattle.std.proofs.Common.{◌≡◌, List, Ok, refl, ap}
+use Rattle.std.proofs.Common.{◌≡◌, ◌∙◌, List, Ok, refl, ap}
 use Rattle.farkas_check.specs.declared.question.Goal.{Goal}
 use Rattle.farkas_check.specs.declared.question.Question.TheVariants.{Sup}
 use Rattle.polyhedra.specs.Infeasibility.{noted_answer}
@@ -17,4 +17,4 @@ returns-in_err-answer g c = λ goals same.
 
 pub returns : goal.returns
 returns g c = λ goals same.
-    in_other_words (answer-first goals) (value_first _ c.in_ok-answer.ensures (ap noted_answer same) (at_end c.bound_in.ensures))
+    in_other_words (answer-first goals) (value_first _ c.in_ok-answer.ensures (ap noted_answer same) (at_end (c.bound_in.ensures ∙ ap bound_in c.get.ensures)))

@@ -1,4 +1,4 @@
-use Rattle.std.proofs.Common.{◌≡◌, refl}
+use Rattle.std.proofs.Common.{◌≡◌, ◌∙◌, refl, ap}
 use Rattle.farkas_check.specs.declared.question.Question.{Question}
 use Rattle.polyhedra.specs.Infeasibility.{assent, noted_answer, is_yes}
 use Rattle.posing.specs.Posing.{Done, ◌>>=◌}
@@ -15,4 +15,4 @@ returns-in_err-answer g c =
 
 pub returns : goal.returns
 returns g c =
-    in_other_words (answer-first c.args.question.now) (value_first _ c.in_ok-answer.ensures refl (at_end c.is_yes.ensures))
+    in_other_words (answer-first c.args.question.now) (value_first _ c.in_ok-answer.ensures refl (at_end (c.is_yes.ensures ∙ ap is_yes c.get.ensures)))

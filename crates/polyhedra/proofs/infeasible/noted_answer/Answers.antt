@@ -1,5 +1,5 @@
-use Rattle.std.proofs.Common.{refl}
-use Rattle.polyhedra.specs.Infeasibility.{noted_answer}
+use Rattle.std.proofs.Common.{refl, ap}
+use Rattle.polyhedra.specs.Infeasibility.{limits_of, noted_answer}
 use Rattle.posing.proofs.Following.{stops}
 use Rattle.posing.proofs.Steps.{value_first, error_first, notes_first, at_end}
 use Rattle.polyhedra.proofs.infeasible.noted_answer.Goals as goal
@@ -15,4 +15,4 @@ returns-in_err-note_limit g c =
 
 pub returns : goal.returns
 unfolding noted_answer
-returns g c = value_first _ c.in_ok-answer.ensures refl (notes_first c.in_ok-note_limit.ensures refl (at_end refl))
+returns g c = value_first _ c.in_ok-answer.ensures refl (notes_first c.in_ok-note_limit.ensures (ap limits_of c.get.ensures) (at_end refl))

@@ -2,7 +2,7 @@ use Rattle.std.proofs.Common.{subst, sym, ◌∙◌}
 use Rattle.posing.specs.Follows.{Follows}
 use Rattle.posing.specs.Logs.{log_of}
 use Rattle.posing.specs.Posing.{answer_to}
-use Rattle.posing.proofs.asking.ask.Goals as goal
+use Rattle.posing.proofs.asking.ask_shared.Goals as goal
 
 pub returns : goal.returns
 returns g c =

@@ -1,0 +1,18 @@
+use Rattle.std.proofs.Common.{refl}
+use Rattle.polyhedra.specs.Infeasibility.{noted_answer}
+use Rattle.posing.proofs.Following.{stops}
+use Rattle.posing.proofs.Steps.{value_first, error_first, notes_first, at_end}
+use Rattle.polyhedra.proofs.infeasible.answer_once.Goals as goal
+
+pub returns-in_err-answer : goal.returns-in_err-answer
+unfolding noted_answer
+returns-in_err-answer g c = error_first _ c.in_err-answer.ensures refl c.from_residual.ensures.1
+
+pub returns-in_err-note_limit : goal.returns-in_err-note_limit
+unfolding noted_answer
+returns-in_err-note_limit g c =
+    value_first _ c.in_ok-answer.ensures refl (stops _ _ _ _ _ _ c.in_err-note_limit.ensures c.from_residual-in_err-note_limit.ensures.1)
+
+pub returns : goal.returns
+unfolding noted_answer
+returns g c = value_first _ c.in_ok-answer.ensures refl (notes_first c.in_ok-note_limit.ensures refl (at_end refl))
