@@ -10,6 +10,7 @@ pub mod Rays
 pub mod Roundings
 pub mod CalmGoals
 pub mod Cases
+pub mod ShortCases
 pub mod ShortTests
 pub mod Widths
 pub mod BasisLeaves

@@ -1,5 +1,5 @@
 -- Where the raise of an objective ended, and another objective in its place.
-use Rattle.std.specs.Prelude.{◌≡◌, ℕ, ◌+◌, ℤ, pos, List, [], ◌∷◌, ◌++◌, get_or, length, Bool, if◌then◌else◌, Result, Ok}
+use Rattle.std.specs.Prelude.{◌≡◌, ℕ, ◌+◌, ℤ, pos, List, [], ◌∷◌, ◌++◌, get_or, length, Bool, if◌then◌else◌, IsTrue, Result, Ok}
 use Rattle.std.specs.Ordering.{eq_by_cmp}
 use Rattle.linear_terms.specs.declared.col.Col.{Col}
 use Rattle.linear_terms.specs.declared.row.Row.{Row}
@@ -11,12 +11,13 @@ use Rattle.whole_numbers.specs.declared.wide.Wide as Step
 use Rattle.simplex.specs.Exchange.{line_without}
 use Rattle.simplex.specs.Rows.{kinds_of}
 use Rattle.simplex.specs.Search.{IsMet, FoundAt}
+use Rattle.simplex.specs.Shortness.{AreShortRows}
 use Rattle.simplex.specs.Suprema.{with_goal, frame_over}
 use Rattle.simplex.specs.declared.search.SearchEnd.{SearchEnd}
 use Rattle.simplex.specs.declared.tableau.Tableau.{Tableau}
 
--- numbers of terms spread over columns: a column of the first term that is left takes its number, and
--- another one 0
+-- numbers of terms spread over columns: a column of the first term that is left takes its number,
+-- and another one 0
 abbrev pub spread : Terms → List (List Col) → List ℤ
 spread ts [] = []
 spread [] (c ∷ cs) = pos 0 ∷ spread [] cs
@@ -46,10 +47,11 @@ pub record StandsAt (cs : List (List Col)) (rows : List Row) (enters : List Bool
   pub objective : Polynomial
   pub met : IsMetFor cs rows objective enters t
 
--- the same over the rows' own columns
-pub record IsLeftAt (cs : List (List Col)) (rows : List Row) (enters : List Bool)
+-- the same over the rows' own columns, and whether the rows are known to be short
+pub record IsLeftAt (cs : List (List Col)) (rows : List Row) (short : Bool) (enters : List Bool)
     (t : Tableau) : Type 0 where
   pub own : cs ≡ columns rows []
+  pub short_rows : IsTrue short → AreShortRows rows
   pub stands : StandsAt cs rows enters t
 
 -- what a search over the frame of the rows and the objective came to

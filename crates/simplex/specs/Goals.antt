@@ -16,6 +16,7 @@ use Rattle.farkas_check.specs.declared.question.Goal.{Goal}
 use Rattle.farkas_check.specs.declared.question.Question.TheVariants.{Sup}
 use Rattle.simplex.specs.Answers.{IsWide, NamesStep}
 use Rattle.simplex.specs.Refusal.{LeavesBits}
+use Rattle.simplex.specs.Shortness.{AreShortRows, HaveShortRows}
 use Rattle.simplex.specs.SearchSteps.{IsFrameStep, far_step}
 use Rattle.simplex.specs.Suprema.{own_frame, IsSupremumOf}
 use Rattle.simplex.specs.declared.goals.Bounds.{Bounds}
@@ -114,6 +115,22 @@ IsFoundAmong budget goals (answer.Basis relations spots free) = ⊥
 abbrev pub ProgressAt : ℕ → List Goal → ℕ → Progress → Type 0
 ProgressAt budget goals place (progress.On bounds) = AreBoundsTo budget goals (place + 1) bounds
 ProgressAt budget goals place (progress.End a) = IsFoundAmong budget goals a
+
+-- the case at a place has short rows where it is bounded, and else those of the answer are short
+abbrev pub IsShortProgress : List Goal → ℕ → Progress → Type 0
+IsShortProgress goals place (progress.On bounds) = (goal : Goal)
+    → slice_get goals place ≡ Some goal → AreShortRows goal.rows
+IsShortProgress goals place (progress.End a) = HaveShortRows goals a
+
+-- an answer with a ray is of the case at a place
+abbrev pub EndsAt : ℕ → Progress → Type 0
+EndsAt place (progress.On bounds) = ⊤
+EndsAt place (progress.End (answer.Unbounded case point ray)) = case ≡ place
+EndsAt place (progress.End (answer.Limit l)) = ⊤
+EndsAt place (progress.End (answer.Bound at certs case point)) = ⊥
+EndsAt place (progress.End (answer.Yes by)) = ⊥
+EndsAt place (progress.End (answer.No point)) = ⊥
+EndsAt place (progress.End (answer.Basis relations spots free)) = ⊥
 
 -- the answer where all cases are bounded
 abbrev pub bound_answer : Bounds → Answer

@@ -1,5 +1,5 @@
 -- Numbers so short that no sum and no product of an answer's test leaves 128 bits.
-use Rattle.std.specs.Prelude.{unsigned_abs, ◌≡◌, ◌≤◌, ℤ, pos, List, length, slice_get, Some, All}
+use Rattle.std.specs.Prelude.{unsigned_abs, ◌≡◌, ◌≤◌, ℤ, pos, List, length, slice_get, Some, All, ⊤}
 use Rattle.linear_terms.specs.declared.row.Row.{Row}
 use Rattle.linear_terms.specs.Polynomial.{Polynomial}
 use Rattle.farkas_check.specs.Ratios.{Fraction}
@@ -32,6 +32,17 @@ pub record AreShortRows (rows : List Row) : Type 0 where
 pub record IsShortGoal (goal : Goal) : Type 0 where
   pub rows : AreShortRows goal.rows
   pub objective : IsShortPoly goal.objective
+
+-- the rows of the cases that an answer speaks of are short
+abbrev pub HaveShortRows : List Goal → Answer → Type 0
+HaveShortRows goals (answer.Bound at certs case point) = All (λ (goal : Goal). AreShortRows goal.rows)
+    goals
+HaveShortRows goals (answer.Unbounded case point ray) = (goal : Goal)
+    → slice_get goals case ≡ Some goal → AreShortRows goal.rows
+HaveShortRows goals (answer.Yes by) = ⊤
+HaveShortRows goals (answer.No point) = ⊤
+HaveShortRows goals (answer.Basis relations spots free) = ⊤
+HaveShortRows goals (answer.Limit limit) = ⊤
 
 -- a certificate of short numbers
 pub record IsShortCert (cert : Cert) : Type 0 where

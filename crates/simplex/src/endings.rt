@@ -10,6 +10,8 @@ use std::marker::Model;
 pub(crate) struct Ending {
     pub(crate) columns: Items<Mono>,
     pub(crate) rows: Items<Row>,
+    /// Whether the numbers of the rows are short.
+    pub(crate) short: bool,
     pub(crate) stage: Stage,
 }
 
@@ -22,7 +24,7 @@ impl Model for Ending {
 
     ghost view = { λ _. tt };
 
-    ghost invariant = { λ e. IsLeftAt e.columns e.rows e.stage.enters e.stage.tableau };
+    ghost invariant = { λ e. IsLeftAt e.columns e.rows e.short e.stage.enters e.stage.tableau };
 }
 
 /// Where the last suprema of cases ended, a place for each case, as far as it is known. A supremum

@@ -1,6 +1,11 @@
-ghost use Rattle.std.specs.Prelude.{◌≡◌, ◌++◌, ◌+◌, ◌<◌, ◌^◌, ℕ, [], ◌∷◌, length, map, IfOk};
+ghost use Rattle.std.specs.Prelude.{◌≡◌, ◌++◌, ◌+◌, ◌<◌, ◌^◌, ℕ, List, [], ◌∷◌, length, map, IsTrue, IfOk, IfSome};
+ghost use Rattle.std.specs.Map.{keys_of};
+ghost use Rattle.linear_terms.specs.declared.col.Col.{Col};
 ghost use Rattle.linear_terms.specs.declared.row.Kind.TheVariants.{AtMost};
-ghost use Rattle.linear_terms.specs.Polynomial.{coefficient_in};
+ghost use Rattle.linear_terms.specs.Polynomial.{coefficient_in, IsCanonical};
+ghost use Rattle.farkas_check.proofs.Spreads.{AreAmong};
+ghost use Rattle.farkas_check.proofs.Walks.{IsOrdered};
+ghost use Rattle.simplex.specs.Endings.{spread};
 ghost use Rattle.simplex.specs.Rows.{kinds_of, coefficients, units_to, whole_line, lines_from, units_from, framed_tableau};
 
 use crate::Tableau;
@@ -27,7 +32,8 @@ pub(crate) fn framed_tableau(
     rows: &[Row],
     columns: &[Mono],
 ) -> Result<Tableau, AllocError>
-    requires { length columns.now + 1 + length rows.now < 2 ^ 64 }
+    requires wide { length columns.now + 1 + length rows.now < 2 ^ 64 }
+    requires ordered { IsOrdered columns.now }
     ensures { IfOk result (λ t. t ≡ framed_tableau columns.now rows.now) }
 {
     let lines = lines_from(alloc, rows, columns)?;
@@ -40,18 +46,20 @@ fn lines_from(
     rows: &[Row],
     columns: &[Mono],
 ) -> Result<Items<Items<i128>>, AllocError>
-    requires { length columns.now + 1 + length rows.now < 2 ^ 64 }
+    requires wide { length columns.now + 1 + length rows.now < 2 ^ 64 }
+    requires ordered { IsOrdered columns.now }
     ensures { IfOk result (λ lines. lines ≡ lines_from columns.now (length rows.now) 0 rows.now) }
 {
     let mut lines = Items::from_vec(Vec::with_capacity(alloc, rows.len())?);
     for (place, row) in rows.iter().enumerate() {
-        lines.push(whole_line(alloc, &row.poly, columns, place, rows.len())?)?;
+        let (line, _among) = ordered_line(alloc, &row.poly, columns, place, rows.len())?;
+        lines.push(line)?;
     }
     Ok(lines)
 }
 
 /// The line of a row with this polynomial, the place-th of so many.
-pub(crate) fn whole_line(
+fn whole_line(
     alloc: Global,
     poly: &Poly,
     columns: &[Mono],
@@ -66,6 +74,85 @@ pub(crate) fn whole_line(
     let mut line = coefficients(alloc, poly, columns, columns.len() + 1 + count)?;
     line.push(poly.rest())?;
     with_units(line, place, count)
+}
+
+/// The same where the columns stand in print order, and whether each of the polynomial's monomials
+/// is known to be one of them.
+pub(crate) fn ordered_line(
+    alloc: Global,
+    poly: &Poly,
+    columns: &[Mono],
+    place: usize,
+    count: usize,
+) -> Result<(Items<i128>, bool), AllocError>
+    requires wide { length columns.now + 1 + count < 2 ^ 64 }
+    requires ordered { IsOrdered columns.now }
+    ensures line { IfOk result
+        (λ r. r.0 ≡ whole_line columns.now count place
+        (record { poly = poly.now; kind = AtMost })) }
+    ensures among { IfOk result
+        (λ r. IsTrue r.1 → AreAmong (keys_of poly.now.terms) columns.now) }
+{
+    let room = columns.len() + 1 + count;
+    match numbers_at(alloc, columns, poly.terms(), room)? {
+        Some(numbers) => {
+            let mut line = numbers;
+            line.push(poly.rest())?;
+            Ok((with_units(line, place, count)?, true))
+        }
+        None => {
+            let line = whole_line(alloc, poly, columns, place, count)?;
+            Ok((line, false))
+        }
+    }
+}
+
+/// The numbers of terms at columns, with room for so many numbers in all; none where a monomial is
+/// not among the columns. As both stand in print order, one walk over the columns finds them.
+fn numbers_at(
+    alloc: Global,
+    columns: &[Mono],
+    terms: &[(Mono, i128)],
+    room: usize,
+) -> Result<Option<Items<i128>>, AllocError>
+    requires ordered { IsOrdered columns.now }
+    requires canonical { IsCanonical terms.now }
+    ensures numbers { IfOk result
+        (λ found. IfSome found (λ line. line ≡ map (coefficient_in terms.now) columns.now)) }
+    ensures among { IfOk result
+        (λ found. IfSome found (λ _. AreAmong (keys_of terms.now) columns.now)) }
+{
+    let mut line = Items::from_vec(Vec::with_capacity(alloc, room)?);
+    let mut left = terms;
+    for column in columns {
+        let (number, more) = number_next(left, column);
+        line.push(number)?;
+        left = more;
+    }
+    if left.is_empty() {
+        Ok(Some(line))
+    } else {
+        Ok(None)
+    }
+}
+
+/// The number at a column where the first of the terms may have it, and the terms that are left.
+fn number_next<'a>(terms: &'a [(Mono, i128)], column: &Mono) -> (i128, &'a [(Mono, i128)])
+    ensures spread { (cs : List (List Col)) → spread terms.entry.now (column.now ∷ cs)
+        ≡ result.0 ∷ spread result.1.now cs }
+    ensures among { (cs : List (List Col)) → AreAmong (keys_of result.1.now) cs
+        → AreAmong (keys_of terms.entry.now) (column.now ∷ cs) }
+{
+    match terms {
+        [(mono, number), more @ ..] => {
+            if *mono == *column {
+                (*number, more)
+            } else {
+                (0, terms)
+            }
+        }
+        [] => (0, terms),
+    }
 }
 
 /// The polynomial's numbers at the columns, with room for so many numbers in all.

@@ -1,17 +1,19 @@
-ghost use Rattle.std.specs.Prelude.{◌≡◌, ◌+◌, ◌-◌, ◌^◌, ◌<◌, ◌≤◌, ◌<ℤ◌, ℕ, pos, length, All, IfOk, IfErr};
+ghost use Rattle.std.specs.Prelude.{◌≡◌, ◌+◌, ◌-◌, ◌^◌, ◌<◌, ◌≤◌, ◌<ℤ◌, ℕ, pos, length, slice_get, Some, All, IsTrue, IfOk, IfErr};
 ghost use Rattle.farkas_check.specs.Calm.{IsCalm, IsLiveAndCalm};
 ghost use Rattle.farkas_check.specs.Kept.{IsCanonicalGoal};
 ghost use Rattle.farkas_check.specs.Meaning.{IsLimit, IsTight};
 ghost use Rattle.farkas_check.specs.Tested.{Passes};
 ghost use Rattle.farkas_check.specs.declared.question.Question.TheVariants as question;
-ghost use Rattle.simplex.specs.Goals.{whole_bound, higher, with_bound, bound_answer, AreBoundsTo, ProgressAt, IsFoundAmong, IsRefusalAmong, IsSupremumAt, IsGoalsStep, IsGoalsAnswer, PivotsAmong};
+ghost use Rattle.simplex.specs.Goals.{whole_bound, higher, with_bound, bound_answer, AreBoundsTo, ProgressAt, IsShortProgress, EndsAt, IsFoundAmong, IsRefusalAmong, IsSupremumAt, IsGoalsStep, IsGoalsAnswer, PivotsAmong};
 ghost use Rattle.simplex.specs.Answers.{IsWide, NamesStep};
+ghost use Rattle.farkas_check.specs.declared.question.Goal.{Goal};
 ghost use Rattle.simplex.specs.Refusal.{LeavesBits};
+ghost use Rattle.simplex.specs.Shortness.{AreShortRows, HaveShortRows};
 ghost use Rattle.simplex.specs.SearchSteps.{far_step};
 ghost use Rattle.simplex.specs.declared.stop.SearchStop.TheVariants as stop;
 
 use crate::answering::limit_of;
-use crate::next_supremum::next_supremum;
+use crate::next_supremum::{CaseEnd, next_supremum};
 use crate::shortness::is_short_goals_answer;
 use crate::{Endings, SearchStop, Supremum};
 use farkas_check::{
@@ -84,7 +86,7 @@ fn answer_of_goals(
 {
     canonical_goals(goals);
     match searched_goals(alloc, goals, i128::MAX as u128, endings) {
-        Ok(found) => Ok(tested_answer(goals, found)),
+        Ok((found, short)) => Ok(tested_answer(goals, found, short)),
         Err(SearchStop::Wide(step)) => Ok(step_answer(goals, &step)),
         Err(SearchStop::Memory) => Err(AllocError),
     }
@@ -102,13 +104,14 @@ fn step_answer(goals: &[Goal], step: &Wide) -> Answer
 
 /// The answer where it passes its test, and else the first step of the test that leaves 128 bits.
 /// Where all numbers are short there is no such step, and the test is left out.
-fn tested_answer(goals: &[Goal], found: Answer) -> Answer
+fn tested_answer(goals: &[Goal], found: Answer, short: bool) -> Answer
     requires canonical { All IsCanonicalGoal goals.now }
+    requires short { IsTrue short → HaveShortRows goals.now found }
     requires found { IsFoundAmong (2 ^ 127 - 1) goals.now found }
     ensures { IsGoalsAnswer goals.now result }
 {
     positivity(&found);
-    if is_short_goals_answer(goals, &found) {
+    if is_short_goals_answer(goals, &found, short) {
         return found;
     }
     match goals_outcome(goals, &found) {
@@ -117,27 +120,32 @@ fn tested_answer(goals: &[Goal], found: Answer) -> Answer
     }
 }
 
-/// The search's answer, before its test.
+/// The search's answer, before its test, and whether the rows that the test would read are known to
+/// be short.
 fn searched_goals(
     alloc: Global,
     goals: &[Goal],
     budget: u128,
     endings: &mut Endings,
-) -> Result<Answer, SearchStop>
-    ensures found { IfOk result (λ a. IsFoundAmong budget goals.now a) }
+) -> Result<(Answer, bool), SearchStop>
+    ensures found { IfOk result (λ r. IsFoundAmong budget goals.now r.0) }
+    ensures short { IfOk result (λ r. IsTrue r.1 → HaveShortRows goals.now r.0) }
     ensures refusal { IfErr result (IsRefusalAmong goals.now) }
 {
     let mut bounds = Bounds {
         certs: Items::new(alloc),
         reach: None,
     };
+    let mut short = true;
     for place in 0..goals.len() {
-        match next_case(alloc, goals, place, bounds, budget, endings)? {
+        let (came, short_here) = next_case(alloc, goals, place, bounds, budget, endings)?;
+        match came {
             Progress::On(more) => bounds = more,
-            Progress::End(answer) => return Ok(answer),
+            Progress::End(answer) => return Ok((answer, short_here)),
         }
+        short = short && short_here;
     }
-    Ok(bound_answer(bounds))
+    Ok((bound_answer(bounds), short))
 }
 
 /// The answer where all cases are bounded.
@@ -156,7 +164,7 @@ fn bound_answer(bounds: Bounds) -> Answer
     }
 }
 
-/// What the next case leads to, where those before it are bounded.
+/// What the next case leads to, where those before it are bounded, and whether its rows are short.
 fn next_case(
     alloc: Global,
     goals: &[Goal],
@@ -164,15 +172,17 @@ fn next_case(
     bounds: Bounds,
     budget: u128,
     endings: &mut Endings,
-) -> Result<Progress, SearchStop>
+) -> Result<(Progress, bool), SearchStop>
     requires so_far { AreBoundsTo budget goals.now place bounds }
     requires here { place < length goals.now }
-    ensures came { IfOk result (λ p. ProgressAt budget goals.now place p) }
+    ensures came { IfOk result (λ r. ProgressAt budget goals.now place r.0) }
+    ensures short { IfOk result (λ r. IsTrue r.1 → IsShortProgress goals.now place r.0) }
     ensures refusal { IfErr result (IsRefusalAmong goals.now) }
 {
     let case = case_number(place)?;
-    let found = case_supremum(alloc, goals, place, budget, endings)?;
-    Ok(progress_of(goals, place, bounds, budget, case, found)?)
+    let (found, short) = case_supremum(alloc, goals, place, budget, endings)?;
+    let came = progress_of(goals, place, bounds, budget, case, found)?;
+    Ok((came, short))
 }
 
 /// What the supremum of the next case leads to.
@@ -187,7 +197,8 @@ fn progress_of(
     requires so_far { AreBoundsTo budget goals.now place bounds }
     requires number { case ≡ place }
     requires supremum { IsSupremumAt budget goals.now place found }
-    ensures { IfOk result (λ p. ProgressAt budget goals.now place p) }
+    ensures came { IfOk result (λ p. ProgressAt budget goals.now place p) }
+    ensures case { IfOk result (λ p. EndsAt place p) }
 {
     let (_goals, _place, _budget) = (goals, place, budget);
     match found {
@@ -205,22 +216,30 @@ fn progress_of(
     }
 }
 
-/// What the case at a place comes to.
+/// What the case at a place comes to, and whether its rows are short.
 fn case_supremum(
     alloc: Global,
     goals: &[Goal],
     place: usize,
     budget: u128,
     endings: &mut Endings,
-) -> Result<Supremum, SearchStop>
+) -> Result<(Supremum, bool), SearchStop>
     requires { place < length goals.now }
-    ensures supremum { IfOk result (λ found. IsSupremumAt budget goals.now place found) }
+    ensures supremum { IfOk result (λ r. IsSupremumAt budget goals.now place r.0) }
+    ensures short { IfOk result
+        (λ r. (goal : Goal) → IsTrue r.1 → slice_get goals.now place ≡ Some goal
+        → AreShortRows goal.rows) }
     ensures refusal { IfErr result (IsRefusalAmong goals.now) }
 {
     let last = endings.take(place);
-    let (found, ending) = next_supremum(alloc, &goals[place], budget, last)?;
+    let came = next_supremum(alloc, &goals[place], budget, last)?;
+    let CaseEnd {
+        found,
+        short,
+        ending,
+    } = came;
     endings.note(place, ending)?;
-    Ok(found)
+    Ok((found, short))
 }
 
 /// The place of a case in 32 bits. There are no more cases in a calm question.

@@ -18,6 +18,7 @@ mod next_supremum;
 mod questions;
 mod raise;
 mod replies;
+mod same_rows;
 mod search;
 mod shortness;
 mod spots;

@@ -3,17 +3,21 @@ ghost use Rattle.std.specs.Map.{keys_of};
 ghost use Rattle.linear_terms.specs.Polynomial.{IsCanonical};
 ghost use Rattle.farkas_check.specs.Columns.{columns as columns_of};
 ghost use Rattle.farkas_check.proofs.Spreads.{AreAmong};
+ghost use Rattle.farkas_check.proofs.Walks.{IsOrdered};
 ghost use Rattle.simplex.specs.Wider.{AreColumnsOf, IsBesides};
 ghost use Rattle.simplex.specs.Endings.{IsMetFor, StandsAt, FoundFor};
 ghost use Rattle.simplex.specs.Raise.{Framed};
 ghost use Rattle.simplex.specs.Refusal.{IsRefusalIn};
+ghost use Rattle.simplex.specs.Shortness.{AreShortRows};
 ghost use Rattle.simplex.specs.Suprema.{FramedKinds, case_over, with_goal, frame_over, own_frame, IsSupremumOver, IsSupremumOf};
 
 use crate::corner::corner;
 use crate::endings::Ending;
 use crate::frame::{framed_tableau, kinds_of};
 use crate::gauss::Stage;
+use crate::same_rows::are_rows;
 use crate::search::{SearchEnd, corner_search};
+use crate::shortness::are_short_rows;
 use crate::supremum::{topped_stage, with_goal};
 use crate::swap::stage_for_goal;
 use crate::widening::{columns_with, first_besides, unit_ray, widened_numbers, widened_supremum};
@@ -31,11 +35,23 @@ pub(crate) struct GoalOver<'a> {
     pub(crate) objective: &'a Poly,
 }
 
+/// What a case of a supremum question came to.
+#[derive(Drop)]
+pub(crate) struct CaseEnd {
+    pub(crate) found: Supremum,
+    /// Whether the numbers of the rows are short.
+    pub(crate) short: bool,
+    /// Where it ended, if the next one over the same rows may begin there.
+    pub(crate) ending: Option<Ending>,
+}
+
 /// A corner of rows, over their own columns, with an objective as its goal.
 #[derive(Drop)]
 pub(crate) struct Corner {
     columns: Items<Mono>,
     rows: Items<Row>,
+    /// Whether the numbers of the rows are short.
+    short: bool,
     stage: Stage,
     /// Whether each of the objective's monomials is known to be one of the columns.
     among: bool,
@@ -49,15 +65,24 @@ pub(crate) fn next_supremum(
     goal: &Goal,
     budget: u128,
     last: Option<Ending>,
-) -> Result<(Supremum, Option<Ending>), SearchStop>
-    ensures supremum { IfOk result (λ r. IsSupremumOf goal.now budget r.0) }
+) -> Result<CaseEnd, SearchStop>
+    ensures supremum { IfOk result (λ r. IsSupremumOf goal.now budget r.found) }
+    ensures short { IfOk result (λ r. IsTrue r.short → AreShortRows goal.now.rows) }
     ensures refusal { IfErr result
         (IsRefusalIn (own_frame goal.now.rows goal.now.objective) (length goal.now.rows + 1)) }
 {
     let rows = goal.rows.as_slice();
     let objective = &goal.objective;
     match corner_for(alloc, last, rows, objective)? {
-        Some(corner) => supremum_with(alloc, rows, objective, corner, budget),
+        Some(corner) => {
+            let short = corner.short;
+            let (found, ending) = supremum_with(alloc, rows, objective, corner, budget)?;
+            Ok(CaseEnd {
+                found,
+                short,
+                ending,
+            })
+        }
         None => {
             let own = case_columns(alloc, rows, &[])?;
             let columns = columns_with(alloc, own.as_slice(), rows, objective.terms())?;
@@ -66,7 +91,13 @@ pub(crate) fn next_supremum(
                 rows,
                 objective,
             };
-            supremum_anew(alloc, goal, own, budget)
+            let short = are_short_rows(rows);
+            let (found, ending) = supremum_anew(alloc, goal, own, short, budget)?;
+            Ok(CaseEnd {
+                found,
+                short,
+                ending,
+            })
         }
     }
 }
@@ -82,6 +113,7 @@ fn supremum_with(
 ) -> Result<(Supremum, Option<Ending>), SearchStop>
     requires own { corner.columns ≡ columns_of rows.now [] }
     requires rows { corner.rows ≡ rows.now }
+    requires short { IsTrue corner.short → AreShortRows rows.now }
     requires met { IsMetFor corner.columns rows.now objective.now corner.stage.enters
         corner.stage.tableau }
     requires among { IsTrue corner.among → AreAmong (keys_of objective.now.terms) corner.columns }
@@ -94,6 +126,7 @@ fn supremum_with(
     let Corner {
         columns: own,
         rows: copies,
+        short,
         stage,
         among,
     } = corner;
@@ -106,11 +139,11 @@ fn supremum_with(
                 objective,
             };
             let found = ray_supremum(alloc, goal, &own, &stage, &mono, up)?;
-            Ok((found, ending_of(own, copies, Some(stage))))
+            Ok((found, ending_of(own, copies, short, Some(stage))))
         }
         None => {
             let (found, left) = supremum_from_corner(alloc, &own, stage, rows, objective, budget)?;
-            Ok((found, ending_of(own, copies, left)))
+            Ok((found, ending_of(own, copies, short, left)))
         }
     }
 }
@@ -149,13 +182,15 @@ pub(crate) fn supremum_from(
             Corner {
                 columns,
                 rows,
+                short,
                 stage,
                 among: _among,
             },
-        ) => supremum_at(alloc, goal, columns, rows, stage, budget),
+        ) => supremum_at(alloc, goal, columns, rows, short, stage, budget),
         None => {
             let own = case_columns(alloc, goal.rows, &[])?;
-            supremum_anew(alloc, goal, own, budget)
+            let short = are_short_rows(goal.rows);
+            supremum_anew(alloc, goal, own, short, budget)
         }
     }
 }
@@ -170,6 +205,8 @@ fn corner_for(
 ) -> Result<Option<Corner>, AllocError>
     ensures own { IfOk result (λ found. IfSome found (λ c. c.columns ≡ columns_of rows.now [])) }
     ensures rows { IfOk result (λ found. IfSome found (λ c. c.rows ≡ rows.now)) }
+    ensures short { IfOk result
+        (λ found. IfSome found (λ c. IsTrue c.short → AreShortRows rows.now)) }
     ensures met { IfOk result
         (λ found. IfSome found
         (λ c. IsMetFor c.columns rows.now objective.now c.stage.enters c.stage.tableau)) }
@@ -191,6 +228,8 @@ fn corner_over(
 ) -> Result<Option<Corner>, AllocError>
     ensures own { IfOk result (λ found. IfSome found (λ c. c.columns ≡ columns_of rows.now [])) }
     ensures rows { IfOk result (λ found. IfSome found (λ c. c.rows ≡ rows.now)) }
+    ensures short { IfOk result
+        (λ found. IfSome found (λ c. IsTrue c.short → AreShortRows rows.now)) }
     ensures met { IfOk result
         (λ found. IfSome found
         (λ c. IsMetFor c.columns rows.now objective.now c.stage.enters c.stage.tableau)) }
@@ -201,6 +240,7 @@ fn corner_over(
     let Ending {
         columns,
         rows: copies,
+        short,
         stage,
     } = ending;
     if !are_rows(copies.as_slice(), rows) {
@@ -216,6 +256,7 @@ fn corner_over(
         Some((stage, among)) => Ok(Some(Corner {
             columns,
             rows: copies,
+            short,
             stage,
             among,
         })),
@@ -223,21 +264,17 @@ fn corner_over(
     }
 }
 
-fn are_rows(own: &[Row], rows: &[Row]) -> bool
-    ensures { IsTrue result → own.now ≡ rows.now }
-{
-    own == rows
-}
-
 /// The supremum from the frame of the rows on.
 fn supremum_anew(
     alloc: Global,
     goal: GoalOver<'_>,
     own: Items<Mono>,
+    short: bool,
     budget: u128,
 ) -> Result<(Supremum, Option<Ending>), SearchStop>
     requires columns { AreColumnsOf goal.columns.now goal.rows.now goal.objective.now }
     requires own { own ≡ columns_of goal.rows.now [] }
+    requires short { IsTrue short → AreShortRows goal.rows.now }
     ensures supremum { IfOk result
         (λ r. IsSupremumOver goal.entry.columns.now goal.entry.rows.now goal.entry.objective.now
         budget r.0) }
@@ -251,7 +288,7 @@ fn supremum_anew(
         SearchEnd::Pivots => Ok((Supremum::Pivots, None)),
         SearchEnd::Corner => {
             let copies = copies_of(alloc, goal.rows)?;
-            supremum_at(alloc, goal, own, copies, stage, budget)
+            supremum_at(alloc, goal, own, copies, short, stage, budget)
         }
     }
 }
@@ -263,12 +300,14 @@ fn supremum_at(
     goal: GoalOver<'_>,
     own: Items<Mono>,
     copies: Items<Row>,
+    short: bool,
     stage: Stage,
     budget: u128,
 ) -> Result<(Supremum, Option<Ending>), SearchStop>
     requires columns { AreColumnsOf goal.columns.now goal.rows.now goal.objective.now }
     requires own { own ≡ columns_of goal.rows.now [] }
     requires rows { copies ≡ goal.rows.now }
+    requires short { IsTrue short → AreShortRows goal.rows.now }
     requires met { IsMetFor own goal.rows.now goal.objective.now stage.enters stage.tableau }
     ensures supremum { IfOk result
         (λ r. IsSupremumOver goal.entry.columns.now goal.entry.rows.now goal.entry.objective.now
@@ -281,11 +320,11 @@ fn supremum_at(
         Some((mono, up)) => {
             let found = ray_supremum(alloc, goal, &own, &stage, &mono, up)?;
             let left = Some(stage);
-            Ok((found, ending_of(own, copies, left)))
+            Ok((found, ending_of(own, copies, short, left)))
         }
         None => {
             let (found, left) = supremum_over(alloc, goal, &own, stage, budget)?;
-            Ok((found, ending_of(own, copies, left)))
+            Ok((found, ending_of(own, copies, short, left)))
         }
     }
 }
@@ -363,6 +402,7 @@ fn searched_case(
     objective: &Poly,
     budget: u128,
 ) -> Result<(Stage, SearchEnd), SearchStop>
+    requires { IsOrdered columns.now }
     ensures found { IfOk result
         (λ r. FoundFor columns.now rows.now objective.now budget r.0.enters r.0.tableau
         r.1) }
@@ -406,14 +446,21 @@ fn supremum_from_corner(
     topped_stage(alloc, stage, columns.len(), rows.len(), budget)
 }
 
-fn ending_of(columns: Items<Mono>, rows: Items<Row>, left: Option<Stage>) -> Option<Ending>
+fn ending_of(
+    columns: Items<Mono>,
+    rows: Items<Row>,
+    short: bool,
+    left: Option<Stage>,
+) -> Option<Ending>
     requires own { columns ≡ columns_of rows [] }
+    requires short { IsTrue short → AreShortRows rows }
     requires left { IfSome left (λ s. StandsAt columns rows s.enters s.tableau) }
 {
     match left {
         Some(stage) => Some(Ending {
             columns,
             rows,
+            short,
             stage,
         }),
         None => None,

@@ -1,6 +1,6 @@
 ghost use Rattle.std.specs.Prelude.{◌≡◌, slice_get, Some, All, IsTrue};
 ghost use Rattle.farkas_check.specs.declared.question.Goal.{Goal};
-ghost use Rattle.simplex.specs.Shortness.{IsShort, IsShortRatio, IsShortPoly, AreShortRows, IsShortGoal, IsShortCert, IsShortRowsAnswer, IsShortGoalsAnswer};
+ghost use Rattle.simplex.specs.Shortness.{IsShort, IsShortRatio, IsShortPoly, AreShortRows, IsShortCert, IsShortRowsAnswer, IsShortGoalsAnswer, HaveShortRows};
 
 use farkas_check::{Answer, Cert, Goal, Ratio};
 use linear_terms::{Mono, Poly, Row};
@@ -23,8 +23,10 @@ pub(crate) fn is_short_rows_answer(rows: &[Row], found: &Answer) -> bool
     }
 }
 
-/// The same of an answer to the question Sup.
-pub(crate) fn is_short_goals_answer(goals: &[Goal], found: &Answer) -> bool
+/// The same of an answer to the question Sup, where it is known whether the rows of the cases that it
+/// speaks of are short.
+pub(crate) fn is_short_goals_answer(goals: &[Goal], found: &Answer, short: bool) -> bool
+    requires { IsTrue short → HaveShortRows goals.now found.now }
     ensures { IsTrue result → IsShortGoalsAnswer goals.now found.now }
 {
     match found {
@@ -34,43 +36,39 @@ pub(crate) fn is_short_goals_answer(goals: &[Goal], found: &Answer) -> bool
             point,
             ..
         } => {
-            is_short(*at)
+            short
+                && is_short(*at)
                 && are_short_ratios(point.as_slice())
                 && are_short_certs(certs.as_slice())
-                && are_short_goals(goals)
+                && have_short_objectives(goals)
         }
         Answer::Unbounded { case, point, ray } => {
-            are_short_ratios(point.as_slice())
+            short
+                && are_short_ratios(point.as_slice())
                 && are_short_ratios(ray.as_slice())
-                && is_short_goal_at(goals, *case as usize)
+                && has_short_objective(goals, *case as usize)
         }
         _ => false,
     }
 }
 
-fn is_short_goal_at(goals: &[Goal], place: usize) -> bool
+fn has_short_objective(goals: &[Goal], place: usize) -> bool
     ensures { (goal : Goal) → IsTrue result → slice_get goals.now place ≡ Some goal
-        → IsShortGoal goal }
+        → IsShortPoly goal.objective }
 {
     match goals.get(place) {
-        Some(goal) => is_short_goal(goal),
+        Some(goal) => is_short_poly(&goal.objective),
         None => false,
     }
 }
 
-fn are_short_goals(goals: &[Goal]) -> bool
-    ensures { IsTrue result → All IsShortGoal goals.now }
+fn have_short_objectives(goals: &[Goal]) -> bool
+    ensures { IsTrue result → All (λ goal. IsShortPoly goal.objective) goals.now }
 {
-    goals.iter().all(|goal| is_short_goal(goal))
+    goals.iter().all(|goal| is_short_poly(&goal.objective))
 }
 
-fn is_short_goal(goal: &Goal) -> bool
-    ensures { IsTrue result → IsShortGoal goal.now }
-{
-    is_short_poly(&goal.objective) && are_short_rows(goal.rows.as_slice())
-}
-
-fn are_short_rows(rows: &[Row]) -> bool
+pub(crate) fn are_short_rows(rows: &[Row]) -> bool
     ensures { IsTrue result → AreShortRows rows.now }
 {
     rows.len() <= MANY && are_short_polys(rows)

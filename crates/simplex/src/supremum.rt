@@ -1,5 +1,6 @@
 ghost use Rattle.std.specs.Prelude.{◌≡◌, ◌+◌, ◌^◌, ◌<◌, ℕ, List, [], Ok, length, get_or, IfOk, IfErr, IfSome};
 ghost use Rattle.items.specs.Gives.{Gives};
+ghost use Rattle.farkas_check.proofs.Walks.{IsOrdered};
 ghost use Rattle.simplex.specs.Calm.{HasSquares, IsSmallLine, IsMemory};
 ghost use Rattle.simplex.specs.Exchange.{cause, IsTableauOf, ArePrimitive};
 ghost use Rattle.simplex.specs.Raise.{Framed};
@@ -78,13 +79,14 @@ pub fn supremum_of(alloc: Global, goal: &Goal, budget: u128) -> Result<Supremum,
 }
 
 /// The same of rows and an objective over columns, among which are theirs.
-pub(crate) fn supremum_over(
+fn supremum_over(
     alloc: Global,
     columns: &[Mono],
     rows: &[Row],
     objective: &Poly,
     budget: u128,
 ) -> Result<Supremum, SearchStop>
+    requires { IsOrdered columns.now }
     ensures supremum { IfOk result
         (λ found. IsSupremumOver columns.now rows.now objective.now budget found) }
     ensures refusal { IfErr result

@@ -1,9 +1,15 @@
-use Rattle.std.proofs.Common.{arith, refl, ap, ◌∙◌, ◌≡◌, [], length, rules}
-use Rattle.farkas_check.specs.Columns.{columns}
+use Rattle.std.proofs.Common.{arith, refl, sym, ap, subst, ◌∙◌, ◌≡◌, [], length, rules}
+use Rattle.farkas_check.specs.Columns.{columns, monos_of}
+use Rattle.farkas_check.proofs.Walks.{IsOrdered, IsOrdered-columns}
 use Rattle.simplex.specs.Rows.{framed_tableau, kinds_of}
 use Rattle.simplex.proofs.RowTableaux.{kinds-length, solving-at}
 use Rattle.simplex.proofs.Honest.{found_at, refusal_at}
 use Rattle.simplex.proofs.answering.searched_rows.Goals as goal
+
+pub framed_tableau-requires-clause-ordered : goal.framed_tableau-requires-clause-ordered
+framed_tableau-requires-clause-ordered c =
+    let own : c.as_slice.result.now ≡ columns c.args.rows.now [] = search rules in
+    subst IsOrdered (sym own) (IsOrdered-columns (monos_of c.args.rows.now []))
 
 pub search_answer-requires : goal.search_answer-requires
 search_answer-requires c =

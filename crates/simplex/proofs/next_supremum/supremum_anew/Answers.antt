@@ -1,11 +1,16 @@
-use Rattle.std.proofs.Common.{rules, ◌+◌, length, subst}
+use Rattle.std.proofs.Common.{rules, [], ◌+◌, length, sym, subst}
 use Rattle.std.specs.Prelude.{IfErr}
+use Rattle.farkas_check.specs.Columns.{monos_of}
+use Rattle.farkas_check.proofs.Walks.{IsOrdered, IsOrdered-columns}
 use Rattle.simplex.specs.Endings.{FoundFor}
 use Rattle.simplex.specs.Refusal.{IsRefusalIn}
 use Rattle.simplex.specs.Suprema.{own_frame}
 use Rattle.simplex.specs.declared.search.SearchEnd.{SearchEnd}
 use Rattle.simplex.proofs.OwnColumns.{refused_own, refuted_over, spent_over}
 use Rattle.simplex.proofs.next_supremum.supremum_anew.Goals as goal
+
+pub searched_case-requires : goal.searched_case-requires
+searched_case-requires c = subst IsOrdered (sym c.requires.own) (IsOrdered-columns (monos_of c.args.goal.rows.now []))
 
 pub returns-in_err-stage-clause-refusal : goal.returns-in_err-stage-clause-refusal
 returns-in_err-stage-clause-refusal c =

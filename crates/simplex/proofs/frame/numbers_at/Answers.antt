@@ -7,7 +7,7 @@ use Rattle.linear_terms.proofs.Merge.{none}
 use Rattle.farkas_check.proofs.Spreads.{AreAmong}
 use Rattle.farkas_check.proofs.Walks.{IsOrdered}
 use Rattle.simplex.proofs.SpreadNumbers.{IsSpread, spread-next, spread-end}
-use Rattle.simplex.proofs.swap.numbers_at.Goals as goal
+use Rattle.simplex.proofs.frame.numbers_at.Goals as goal
 
 pub loop-column-preserved : goal.loop-column-preserved
 loop-column-preserved c =
